@@ -27,11 +27,12 @@ IsSure s = s.now ≡ record { sure = s.seen; since = [] }
 
 -- The file after these bytes are written over it from a place on.
 abbrev pub patched : ℕ → List ℕ → List ℕ → List ℕ
-patched at piece bytes = take at bytes ++ piece ++ drop (at + length piece) bytes
+patched at piece bytes = take at bytes ++ (piece ++ drop (at + length piece) bytes)
 
 -- After a write of n bytes that may be torn anyhow: any bytes in its range and past the old end, the same elsewhere.
+-- (A write past the end, which no caller makes, would begin at the end.)
 pub record Torn (at n : ℕ) (old new : List ℕ) : Type 0 where
-  pub before : take at new ≡ take at old
+  pub before : take (min at (length old)) new ≡ take at old
   pub after : drop (at + n) new ≡ drop (at + n) old
   pub no_shorter : length old ≤ length new
   pub no_longer : length new ≤ max (length old) (at + n)
@@ -52,13 +53,13 @@ TearsAll [] old new = new ≡ old
 TearsAll (change ∷ changes) old new = (mid : List ℕ) × Tears change old mid × TearsAll changes mid new
 
 -- A crash at this moment may leave these bytes: those that were sure, with each later change torn anyhow.
-abbrev pub Image : Moment → List ℕ → Type 0
-Image m bytes = TearsAll m.since m.sure bytes
+abbrev pub MayLeave : Moment → List ℕ → Type 0
+MayLeave m bytes = TearsAll m.since m.sure bytes
 
 -- A crash at one of these moments may leave these bytes.
-abbrev pub SomeImage : List Moment → List ℕ → Type 0
-SomeImage [] bytes = ⊥
-SomeImage (m ∷ moments) bytes = Image m bytes ⊎ SomeImage moments bytes
+abbrev pub LeftAtSome : List Moment → List ℕ → Type 0
+LeftAtSome [] bytes = ⊥
+LeftAtSome (m ∷ moments) bytes = MayLeave m bytes ⊎ LeftAtSome moments bytes
 
 -- The disk at a new moment, which the clock counts.
 abbrev pub at_moment : DiskState → List ℕ → Moment → DiskState
@@ -100,7 +101,7 @@ pub record ReadsAt (seen : List ℕ) (at count : ℕ) (old new : List ℕ) : Typ
 
 -- A crash at a moment from the old state on, up to the new one, may leave these bytes.
 abbrev pub LeftSince : DiskState → DiskState → List ℕ → Type 0
-LeftSince old new bytes = Image old.now bytes ⊎ SomeImage (drop (length old.moments) new.moments) bytes
+LeftSince old new bytes = MayLeave old.now bytes ⊎ LeftAtSome (drop (length old.moments) new.moments) bytes
 
 -- The clock went on from the old state to the new one, and a crash at any moment on the way leaves only bytes that have P.
 pub record LeavesOnly (old new : DiskState) (P : List ℕ → Type 0) : Type 0 where

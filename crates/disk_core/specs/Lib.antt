@@ -1,2 +1,5 @@
 pub mod Counts
 pub mod DiskModel
+pub mod Images
+pub mod History
+pub mod Memory

@@ -6,5 +6,9 @@
 #![tactic(auto)]
 
 mod disk;
+mod image;
+mod memory;
 
 pub use disk::{Disk, Failed, NoMemory};
+pub use image::Image;
+pub use memory::MemDisk;

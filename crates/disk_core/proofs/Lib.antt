@@ -1,0 +1,3 @@
+pub mod Crashes
+pub mod Moments
+pub mod Replays
