@@ -249,7 +249,8 @@ impl MemDisk {
         ensures crash { IfOk result (λ d. MayLeave (state_of self.now).now (state_of d).seen) }
     {
         let bytes = crash_bytes(alloc, image, &self.first, &self.calls, &self.pieces)?;
-        MemDisk::new(alloc, bytes)
+        let disk = MemDisk::new(alloc, bytes)?;
+        Ok(disk)
     }
 
     /// The bytes that a read gives.
