@@ -1,5 +1,6 @@
 pub mod Counts
 pub mod DiskModel
-pub mod Images
 pub mod History
+pub mod Images
 pub mod Memory
+pub mod Stays

@@ -1,7 +1,7 @@
 //! The trait `Disk` and its faults.
 ghost use Rattle.std.specs.Prelude.{◌≡◌, ℕ, ◌+◌, ◌≤◌, ◌<◌, Option, Some, option_map, length, OnOk, IfOk, OnErr};
 ghost use Rattle.disk_core.specs.Counts.{HasCause};
-ghost use Rattle.disk_core.specs.DiskModel.{DiskState, written, cut_to, synced, FailsToWrite, FailsToCut, Becomes, ReadsAt};
+ghost use Rattle.disk_core.specs.DiskModel.{DiskState, written, cut_to, synced, FailsToWrite, FailsToCut, Becomes, MayLeave, ReadsAt};
 
 use std::alloc::{AllocError, AllocFailed};
 use thiserror::Error;
@@ -92,4 +92,7 @@ pub trait Disk {
         ensures more { (room self.old ≤ room self.new) × (calls self.old ≤ calls self.new) }
         ensures state { state self.new ≡ state self.old }
         ensures faults { faults self.new ≡ faults self.old };
+
+    /// What a read gives is one of the contents that a crash may leave.
+    ghost seen_may_stay: { (d : Self) (s : DiskState) → state d ≡ Some s → MayLeave s.now s.seen };
 }

@@ -1,7 +1,7 @@
 use Rattle.std.proofs.Common.{inr, refl, ◌∙◌, ap, arith}
 use Rattle.disk_core.specs.DiskModel.{patched, written}
 use Rattle.disk_core.specs.Memory.{state_of}
-use Rattle.disk_core.proofs.Crashes.{torn_patch}
+use Rattle.disk_core.specs.Stays.{torn_patch}
 use Rattle.disk_core.proofs.memory.MemDiskDisk.write_at.Goals as goal
 
 pub returns-in-Stops-clause-torn : goal.returns-in-Stops-clause-torn
