@@ -1,0 +1,4 @@
+pub mod Format
+pub mod Layout
+pub mod Recovery
+pub mod RecordLists
