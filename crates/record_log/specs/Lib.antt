@@ -1,3 +1,4 @@
+pub mod Crash
 pub mod Format
 pub mod Layout
 pub mod Recovery

@@ -1,6 +1,7 @@
 //! A list of records on a pair of files that is right after a crash at any moment of any call.
 #![tactic(auto)]
 
+mod appending;
 mod reading;
 mod records;
 
