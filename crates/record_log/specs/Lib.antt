@@ -1,4 +1,5 @@
 pub mod Crash
+pub mod Files
 pub mod Format
 pub mod Layout
 pub mod Recovery

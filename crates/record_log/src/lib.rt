@@ -2,9 +2,13 @@
 #![tactic(auto)]
 
 mod appending;
+mod fault;
+mod files;
 mod reading;
 mod records;
 
+pub use fault::LogFault;
+pub use files::DiskPair;
 pub use records::{Bytes, Records};
 
 /// The longest payload of a record, in bytes.

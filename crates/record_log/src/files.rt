@@ -1,0 +1,102 @@
+//! The file layer: which of two files is the current one, by their marks, gates and generations.
+ghost use Rattle.std.specs.Prelude.{◌≡◌, ◌≤◌, ◌<◌, ◌+◌, ◌^◌, ◌&&◌, ◌||◌, ◌==◌, OnErr, List, nat_le, nat_lt, bytes_eq, ℕ, Some, take, drop, slice_index, length, IfOk, OnOk, IsErrOf, option_map};
+ghost use Rattle.disk_core.specs.Counts.{HasCause};
+ghost use Rattle.disk_core.specs.DiskModel.{Becomes, DiskState, synced};
+ghost use Rattle.byteorder.specs.Endian.{little_number};
+ghost use Rattle.record_log.specs.Format.{mark};
+ghost use Rattle.record_log.specs.Files.{FaultCause, IsHead, leads};
+
+use crate::LogFault;
+use byteorder::{ByteOrder, LittleEndian};
+use disk_core::{Disk, Failed};
+use std::alloc::Global;
+
+/// The two files of a log.
+#[derive(Debug, Drop)]
+pub struct DiskPair<D> {
+    /// The file that a new log writes to.
+    pub main: D,
+    /// The file to which a log is written anew.
+    pub spare: D,
+}
+
+/// The eight bytes with which each file of a log begins.
+pub const MARK: &[u8; 8] = b"SPFLOG01";
+
+/// How many bytes stand before the first record's gate: mark, gate and generation.
+pub const HEAD: usize = 17;
+
+/// The first bytes of a file, and its length.
+#[derive(Clone, Copy, Debug)]
+pub struct Head {
+    pub bytes: [u8; 17],
+    pub length: u64,
+}
+
+impl Head {
+    /// The file begins with the mark.
+    fn has_mark(&self) -> bool
+        ensures { result ≡ bytes_eq (take 8 self.now.bytes) mark }
+    {
+        self.bytes[..8] == MARK[..]
+    }
+
+    /// The file's gate is open.
+    fn is_open(&self) -> bool
+        ensures { result ≡ (nat_le 18 self.now.length && (slice_index self.now.bytes 8 == 1)) }
+    {
+        self.length >= 18 && self.bytes[8] == 1
+    }
+
+    /// The file's generation.
+    fn generation(&self) -> u64
+        ensures { result ≡ little_number 8 (drop 9 self.now.bytes) }
+    {
+        let (_, rest) = self.bytes.split_at(9);
+        LittleEndian::read_u64(rest)
+    }
+
+    /// Of two files this is the current one: its gate is open, and the other's isn't or is that of a lower generation.
+    fn is_current(&self, other: &Head) -> bool
+        ensures { result ≡ leads self.now other.now }
+    {
+        self.is_open() && (!other.is_open() || other.generation() < self.generation())
+    }
+}
+
+/// Reads a file's head.
+fn read_head<D: Disk>(disk: &mut D) -> Result<Head, Failed>
+    ensures told { IfOk result (λ head. (s : DiskState) → D.state disk.old ≡ Some s → IsHead s.seen head) }
+    ensures state { D.state disk.new ≡ D.state disk.old }
+    ensures cause { HasCause (D.faults disk.old) (D.faults disk.new) result }
+{
+    let length = disk.length()?;
+    let mut bytes = [0; HEAD];
+    let _ = disk.read(0, &mut bytes)?;
+    Ok(Head { bytes, length })
+}
+
+/// Reads what stands behind a file's head.
+fn read_body<D: Disk>(alloc: Global, disk: &mut D, head: &Head) -> Result<Vec<u8>, LogFault>
+    ensures told { IfOk result (λ body. (s : DiskState) → D.state disk.old ≡ Some s → IsHead s.seen head.now → body.items ≡ drop 17 s.seen) }
+    ensures state { D.state disk.new ≡ D.state disk.old }
+    ensures refused { (found : List ℕ) (size : ℕ) → IsErrOf result (LogFault.NotALog found size) → ⊥ }
+    ensures cause { FaultCause (D.faults disk.old) (D.faults disk.new) (IsErrOf result LogFault.DiskFault) }
+{
+    let mut body = vec![in alloc; 0u8; head.length.saturating_sub(HEAD as u64) as usize]?;
+    let count = disk.read(HEAD as u64, &mut body)?;
+    body.truncate(count);
+    Ok(body)
+}
+
+/// Makes a file sure, so that a crash leaves what is read.
+fn make_sure<D: Disk>(disk: &mut D) -> Result<(), LogFault>
+    ensures sure { OnOk result (D.state disk.new ≡ option_map synced (D.state disk.old)) }
+    ensures unchanged { OnErr result (D.state disk.new ≡ D.state disk.old) }
+    ensures refused { (found : List ℕ) (size : ℕ) → IsErrOf result (LogFault.NotALog found size) → ⊥ }
+    ensures cause { FaultCause (D.faults disk.old) (D.faults disk.new) (IsErrOf result LogFault.DiskFault) }
+{
+    disk.ready(0)?;
+    disk.sync()?;
+    Ok(())
+}
