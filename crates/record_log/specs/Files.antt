@@ -1,9 +1,10 @@
 -- The two files of a log that was opened, and what an opening may do to them.
-use Rattle.std.specs.Prelude.{not, ◌&&◌, ◌||◌, ◌==◌, nat_le, nat_lt, drop, slice_index, ◌≡◌, ◌≢◌, ◌⊎◌, ◌≤◌, ℕ, ◌+◌, Bool, true, false, List, [], ◌∷◌, ◌++◌, length, take, Option, Some, None, Result}
+use Rattle.std.specs.Prelude.{bytes_eq, if◌then◌else◌, not, ◌&&◌, ◌||◌, ◌==◌, nat_le, nat_lt, drop, slice_index, ◌≡◌, ◌≢◌, ◌⊎◌, ◌≤◌, ℕ, ◌+◌, Bool, true, false, List, [], ◌∷◌, ◌++◌, length, take, Option, Some, None, Result}
 use Rattle.disk_core.specs.Counts.{HasRisen}
 use Rattle.disk_core.specs.DiskModel.{DiskState, synced, Becomes}
 use Rattle.byteorder.specs.Endian.{little_number}
 use Rattle.record_log.specs.Recovery.{head_of, has_mark, is_current, records_of, shown_of}
+use Rattle.record_log.specs.Format.{mark}
 use Rattle.record_log.specs.Layout.{Reads, size_of}
 use Rattle.record_log.specs.Crash.{IsShut}
 use Rattle.record_log.specs.declared.files.Head.{Head}
@@ -18,6 +19,10 @@ abbrev pub leads : Head → Head → Bool
 leads head other =
     (nat_le 18 head.length && (slice_index head.bytes 8 == 1))
     && (not (nat_le 18 other.length && (slice_index other.bytes 8 == 1)) || nat_lt (little_number 8 (drop 9 other.bytes)) (little_number 8 (drop 9 head.bytes)))
+
+-- Of two heads this is that of the file that a refusal shows.
+abbrev pub shown_head : Head → Head → Head
+shown_head main spare = if bytes_eq (take 8 main.bytes) mark && not (bytes_eq (take 8 spare.bytes) mark) then spare else main
 
 -- A fault of one disk is answered exactly where its count rose, and the count never falls.
 pub record FaultCause (before now : ℕ) (failed : Type 0) : Type 0 where

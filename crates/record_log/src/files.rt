@@ -1,12 +1,16 @@
 //! The file layer: which of two files is the current one, by their marks, gates and generations.
-ghost use Rattle.std.specs.Prelude.{◌≡◌, ◌≤◌, ◌<◌, ◌+◌, ◌^◌, ◌&&◌, ◌||◌, ◌==◌, OnErr, List, nat_le, nat_lt, bytes_eq, ℕ, Some, take, drop, slice_index, length, IfOk, OnOk, IsErrOf, option_map};
+ghost use Rattle.std.specs.Prelude.{◌≡◌, ◌≢◌, None, ◌≤◌, ◌<◌, ◌+◌, ◌^◌, ◌&&◌, ◌||◌, ◌==◌, OnErr, List, nat_le, nat_lt, bytes_eq, ℕ, Some, take, drop, slice_index, length, IfOk, OnOk, IsErrOf, option_map};
 ghost use Rattle.disk_core.specs.Counts.{HasCause};
 ghost use Rattle.disk_core.specs.DiskModel.{Becomes, DiskState, synced};
 ghost use Rattle.byteorder.specs.Endian.{little_number};
 ghost use Rattle.record_log.specs.Format.{mark};
-ghost use Rattle.record_log.specs.Files.{FaultCause, IsHead, leads};
+ghost use Rattle.record_log.specs.Files.{Counted, FaultCause, IsHead, IsLogIn, IsRefused, leads, shown_head};
+ghost use Rattle.record_log.specs.Layout.{EndsAt, size_of};
+ghost use Rattle.record_log.specs.Recovery.{records_past};
+ghost use Rattle.record_log.specs.RecordLists.{list_of};
 
-use crate::LogFault;
+use crate::{LogFault, Records};
+use crate::reading::{Body, ReadFault, read_records};
 use byteorder::{ByteOrder, LittleEndian};
 use disk_core::{Disk, Failed};
 use std::alloc::Global;
@@ -79,6 +83,7 @@ fn read_head<D: Disk>(disk: &mut D) -> Result<Head, Failed>
 /// Reads what stands behind a file's head.
 fn read_body<D: Disk>(alloc: Global, disk: &mut D, head: &Head) -> Result<Vec<u8>, LogFault>
     ensures told { IfOk result (λ body. (s : DiskState) → D.state disk.old ≡ Some s → IsHead s.seen head.now → body.items ≡ drop 17 s.seen) }
+    ensures fits { IfOk result (λ body. length body.items + 17 < 2 ^ 64) }
     ensures state { D.state disk.new ≡ D.state disk.old }
     ensures refused { (found : List ℕ) (size : ℕ) → IsErrOf result (LogFault.NotALog found size) → ⊥ }
     ensures cause { FaultCause (D.faults disk.old) (D.faults disk.new) (IsErrOf result LogFault.DiskFault) }
@@ -99,4 +104,87 @@ fn make_sure<D: Disk>(disk: &mut D) -> Result<(), LogFault>
     disk.ready(0)?;
     disk.sync()?;
     Ok(())
+}
+
+/// What was found in a log's files.
+#[derive(Debug, Drop)]
+pub struct Found {
+    pub records: Records,
+    /// The place of the gate that ends the records.
+    pub gate: u64,
+    /// The spare file is the current one.
+    pub in_spare: bool,
+}
+
+/// Tells what shows that the files aren't those of a log: the first that lacks the mark, else the main one.
+fn refusal(main: &Head, spare: &Head) -> LogFault
+    ensures { result ≡ LogFault.NotALog (take 8 (shown_head main.now spare.now).bytes) (shown_head main.now spare.now).length }
+{
+    let shown = if main.has_mark() && !spare.has_mark() {
+        spare
+    } else {
+        main
+    };
+    let mut found = [0; 8];
+    found.copy_from_slice(&shown.bytes[..8]);
+    LogFault::NotALog {
+        found,
+        length: shown.length,
+    }
+}
+
+/// Reads the records of the current file.
+fn read_current<D: Disk>(alloc: Global, disk: &mut D, head: &Head, refusal: LogFault) -> Result<Body, LogFault>
+    ensures told { IfOk result (λ body. (s : DiskState) → D.state disk.old ≡ Some s → IsHead s.seen head.now → EndsAt (drop 17 s.seen) (list_of body.records) body.size) }
+    ensures fits { IfOk result (λ body. body.size + 17 < 2 ^ 64) }
+    ensures size { IfOk result (λ body. size_of (list_of body.records) ≡ body.size) }
+    ensures broken { (found : List ℕ) (size : ℕ) → IsErrOf result (LogFault.NotALog found size) → (LogFault.NotALog found size ≡ refusal)
+        × ((s : DiskState) → D.state disk.old ≡ Some s → IsHead s.seen head.now → records_past 0 (drop 17 s.seen) ≡ None) }
+    ensures state { D.state disk.new ≡ D.state disk.old }
+    ensures cause { refusal ≢ LogFault.DiskFault → FaultCause (D.faults disk.old) (D.faults disk.new) (IsErrOf result LogFault.DiskFault) }
+{
+    let bytes = read_body(alloc, disk, head)?;
+    match read_records(alloc, &bytes) {
+        Ok(body) => Ok(body),
+        Err(ReadFault::Broken) => Err(refusal),
+        Err(ReadFault::NoMemory) => Err(LogFault::NoMemory),
+    }
+}
+
+/// Finds the current file of two, and reads its records. It changes nothing.
+fn read_files<D: Disk>(alloc: Global, main: &mut D, spare: &mut D) -> Result<Found, LogFault>
+    ensures told { IfOk result (λ found. (a b : DiskState) → D.state main.old ≡ Some a → D.state spare.old ≡ Some b → IsLogIn found.in_spare a.seen b.seen (list_of found.records) found.gate) }
+    ensures size { IfOk result (λ found. 17 + size_of (list_of found.records) ≡ found.gate) }
+    ensures refused { (found : List ℕ) (size : ℕ) → IsErrOf result (LogFault.NotALog found size)
+        → (a b : DiskState) → D.state main.old ≡ Some a → D.state spare.old ≡ Some b → IsRefused a.seen b.seen found size }
+    ensures state { (D.state main.new ≡ D.state main.old) × (D.state spare.new ≡ D.state spare.old) }
+    ensures cause { Counted (D.faults main.old) (D.faults main.new) (D.faults spare.old) (D.faults spare.new) (IsErrOf result LogFault.DiskFault) }
+{
+    let first = read_head(main)?;
+    let second = read_head(spare)?;
+    let fault = refusal(&first, &second);
+    if !first.has_mark() || !second.has_mark() {
+        return Err(fault);
+    }
+    if first.is_current(&second) {
+        return match read_current(alloc, main, &first, fault) {
+            Ok(body) => Ok(Found {
+                records: body.records,
+                gate: HEAD as u64 + body.size,
+                in_spare: false,
+            }),
+            Err(fault) => Err(fault),
+        };
+    }
+    if second.is_current(&first) {
+        return match read_current(alloc, spare, &second, fault) {
+            Ok(body) => Ok(Found {
+                records: body.records,
+                gate: HEAD as u64 + body.size,
+                in_spare: true,
+            }),
+            Err(fault) => Err(fault),
+        };
+    }
+    Err(fault)
 }

@@ -2,7 +2,7 @@
 ghost use Rattle.std.specs.Prelude.{◌≡◌, ◌≢◌, ◌++◌, [], ◌∷◌, ◌≤◌, ◌<◌, ◌+◌, ℕ, List, true, false, None, drop, length, IfOk, IfSome, IfNone, IsErrOf, OnErr, sum_by};
 ghost use Rattle.record_log.specs.Recovery.{is_whole, payload_at, records_past};
 ghost use Rattle.byteorder.specs.Endian.{little_number};
-ghost use Rattle.record_log.specs.Layout.{EndsAt};
+ghost use Rattle.record_log.specs.Layout.{EndsAt, size_of};
 ghost use Rattle.record_log.specs.RecordLists.{list_of};
 
 use crate::{Bytes, MAX_PAYLOAD, Records};
@@ -71,6 +71,8 @@ fn behind_open_gate(bytes: &[u8]) -> Option<&[u8]>
 /// Reads the records of a body up to the gate that ends them.
 pub fn read_records(alloc: Global, bytes: &[u8]) -> Result<Body, ReadFault>
     ensures records { IfOk result (λ body. EndsAt bytes.now (list_of body.records) body.size) }
+    ensures within { IfOk result (λ body. body.size ≤ length bytes.now) }
+    ensures size { IfOk result (λ body. size_of (list_of body.records) ≡ body.size) }
     ensures broken { IsErrOf result ReadFault.Broken → records_past 0 bytes.now ≡ None }
 {
     let mut records = Records::new(alloc);
