@@ -1,3 +1,4 @@
 pub mod Appends
 pub mod FilesFound
+pub mod KeptFields
 pub mod RecordReads

@@ -4,7 +4,7 @@ ghost use Rattle.disk_core.specs.Counts.{HasCause};
 ghost use Rattle.disk_core.specs.DiskModel.{Becomes, DiskState, synced};
 ghost use Rattle.byteorder.specs.Endian.{little_number};
 ghost use Rattle.record_log.specs.Format.{mark};
-ghost use Rattle.record_log.specs.Files.{Counted, FaultCause, IsHead, IsLogIn, IsRefused, leads, shown_head};
+ghost use Rattle.record_log.specs.Files.{Counted, FaultCause, IsHead, IsLogIn, IsRefused, MaySync, leads, shown_head};
 ghost use Rattle.record_log.specs.Layout.{EndsAt, size_of};
 ghost use Rattle.record_log.specs.Recovery.{records_past};
 ghost use Rattle.record_log.specs.RecordLists.{list_of};
@@ -136,7 +136,7 @@ fn refusal(main: &Head, spare: &Head) -> LogFault
 /// Reads the records of the current file.
 fn read_current<D: Disk>(alloc: Global, disk: &mut D, head: &Head, refusal: LogFault) -> Result<Body, LogFault>
     ensures told { IfOk result (λ body. (s : DiskState) → D.state disk.old ≡ Some s → IsHead s.seen head.now → EndsAt (drop 17 s.seen) (list_of body.records) body.size) }
-    ensures fits { IfOk result (λ body. body.size + 17 < 2 ^ 64) }
+    ensures fits { IfOk result (λ body. body.size + 18 < 2 ^ 64) }
     ensures size { IfOk result (λ body. size_of (list_of body.records) ≡ body.size) }
     ensures broken { (found : List ℕ) (size : ℕ) → IsErrOf result (LogFault.NotALog found size) → (LogFault.NotALog found size ≡ refusal)
         × ((s : DiskState) → D.state disk.old ≡ Some s → IsHead s.seen head.now → records_past 0 (drop 17 s.seen) ≡ None) }
@@ -155,6 +155,7 @@ fn read_current<D: Disk>(alloc: Global, disk: &mut D, head: &Head, refusal: LogF
 fn read_files<D: Disk>(alloc: Global, main: &mut D, spare: &mut D) -> Result<Found, LogFault>
     ensures told { IfOk result (λ found. (a b : DiskState) → D.state main.old ≡ Some a → D.state spare.old ≡ Some b → IsLogIn found.in_spare a.seen b.seen (list_of found.records) found.gate) }
     ensures size { IfOk result (λ found. 17 + size_of (list_of found.records) ≡ found.gate) }
+    ensures fits { IfOk result (λ found. found.gate + 1 < 2 ^ 64) }
     ensures refused { (found : List ℕ) (size : ℕ) → IsErrOf result (LogFault.NotALog found size)
         → (a b : DiskState) → D.state main.old ≡ Some a → D.state spare.old ≡ Some b → IsRefused a.seen b.seen found size }
     ensures state { (D.state main.new ≡ D.state main.old) × (D.state spare.new ≡ D.state spare.old) }
@@ -187,4 +188,20 @@ fn read_files<D: Disk>(alloc: Global, main: &mut D, spare: &mut D) -> Result<Fou
         };
     }
     Err(fault)
+}
+
+/// Makes both files sure, the main one first, and reads the current one. It writes nothing.
+pub fn recover<D: Disk>(alloc: Global, main: &mut D, spare: &mut D) -> Result<Found, LogFault>
+    ensures told { IfOk result (λ found. (a b : DiskState) → D.state main.old ≡ Some a → D.state spare.old ≡ Some b → IsLogIn found.in_spare a.seen b.seen (list_of found.records) found.gate) }
+    ensures size { IfOk result (λ found. 17 + size_of (list_of found.records) ≡ found.gate) }
+    ensures fits { IfOk result (λ found. found.gate + 1 < 2 ^ 64) }
+    ensures refused { (found : List ℕ) (size : ℕ) → IsErrOf result (LogFault.NotALog found size)
+        → (a b : DiskState) → D.state main.old ≡ Some a → D.state spare.old ≡ Some b → IsRefused a.seen b.seen found size }
+    ensures sure { OnOk result ((D.state main.new ≡ option_map synced (D.state main.old)) × (D.state spare.new ≡ option_map synced (D.state spare.old))) }
+    ensures syncs { Becomes MaySync (D.state main.old) (D.state main.new) × Becomes MaySync (D.state spare.old) (D.state spare.new) }
+    ensures cause { Counted (D.faults main.old) (D.faults main.new) (D.faults spare.old) (D.faults spare.new) (IsErrOf result LogFault.DiskFault) }
+{
+    make_sure(main)?;
+    make_sure(spare)?;
+    read_files(alloc, main, spare)
 }

@@ -4,11 +4,13 @@
 mod appending;
 mod fault;
 mod files;
+mod log;
 mod reading;
 mod records;
 
 pub use fault::LogFault;
 pub use files::DiskPair;
+pub use log::Log;
 pub use records::{Bytes, Records};
 
 /// The longest payload of a record, in bytes.

@@ -71,7 +71,7 @@ fn behind_open_gate(bytes: &[u8]) -> Option<&[u8]>
 /// Reads the records of a body up to the gate that ends them.
 pub fn read_records(alloc: Global, bytes: &[u8]) -> Result<Body, ReadFault>
     ensures records { IfOk result (λ body. EndsAt bytes.now (list_of body.records) body.size) }
-    ensures within { IfOk result (λ body. body.size ≤ length bytes.now) }
+    ensures within { IfOk result (λ body. body.size < length bytes.now) }
     ensures size { IfOk result (λ body. size_of (list_of body.records) ≡ body.size) }
     ensures broken { IsErrOf result ReadFault.Broken → records_past 0 bytes.now ≡ None }
 {
