@@ -1,5 +1,5 @@
 //! The trait `Disk` and its faults.
-ghost use Rattle.std.specs.Prelude.{◌≡◌, ℕ, ◌+◌, ◌≤◌, ◌<◌, Option, Some, option_map, length, OnOk, IfOk, OnErr};
+ghost use Rattle.std.specs.Prelude.{◌≡◌, ℕ, ◌+◌, ◌≤◌, ◌<◌, Option, Some, option_map, length, is_some, OnOk, IfOk, OnErr};
 ghost use Rattle.disk_core.specs.Counts.{HasCause};
 ghost use Rattle.disk_core.specs.DiskModel.{DiskState, written, cut_to, synced, FailsToWrite, FailsToCut, Becomes, MayLeave, ReadsAt};
 
@@ -95,4 +95,7 @@ pub trait Disk {
 
     /// What a read gives is one of the contents that a crash may leave.
     ghost seen_may_stay: { (d : Self) (s : DiskState) → state d ≡ Some s → MayLeave s.now s.seen };
+
+    /// Either all disks of this kind tell, or none does.
+    ghost all_or_none: { (d e : Self) → is_some (state d) ≡ is_some (state e) };
 }

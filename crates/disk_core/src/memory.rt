@@ -344,12 +344,14 @@ impl Disk for MemDisk {
 
     ghost calls = { calls_of };
 
-    ghost use Rattle.std.proofs.Common.{subst, ap};
+    ghost use Rattle.std.proofs.Common.{subst, ap, refl};
     ghost use Rattle.std.specs.Prelude.{unwrap_or};
     ghost use Rattle.disk_core.specs.Stays.{memory_stays};
     ghost use Rattle.disk_core.specs.DiskModel.{DiskState, MayLeave};
 
     ghost seen_may_stay = { λ d s is. subst (λ (t : DiskState). MayLeave t.now t.seen) (ap (λ o. unwrap_or o s) is) (memory_stays d) };
+
+    ghost all_or_none = { λ d e. refl };
 
     fn length(&mut self) -> Result<u64, Failed> {
         if self.stopped.is_some() {

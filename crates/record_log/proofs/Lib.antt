@@ -1,4 +1,5 @@
 pub mod Appends
 pub mod FilesFound
 pub mod KeptFields
+pub mod Pairs
 pub mod RecordReads

@@ -1,5 +1,5 @@
 //! The log: records that are right after a crash at any moment.
-ghost use Rattle.std.specs.Prelude.{◌≡◌, ◌≢◌, ◌⊎◌, ◌≤◌, ◌<◌, ◌+◌, ◌^◌, min, ℕ, true, false, Some, List, [], ◌∷◌, ◌++◌, length, IfOk, IfErr, OnOk, OnErr, IsErrOf, vec_capacity, option_map};
+ghost use Rattle.std.specs.Prelude.{◌≡◌, ◌≢◌, ◌⊎◌, ◌≤◌, ◌<◌, ◌+◌, ◌^◌, min, ℕ, true, false, Some, List, [], ◌∷◌, ◌++◌, length, IfOk, IfErr, OnOk, OnErr, IsErrOf, IsOk, Err, ◌-◌, vec_capacity, option_map};
 ghost use Rattle.disk_core.specs.DiskModel.{DiskState, IsSure, Becomes, MayLeave, LeavesOnly, synced};
 ghost use Rattle.record_log.specs.Format.{framed, log_size};
 ghost use Rattle.record_log.specs.Recovery.{records_of};
@@ -99,6 +99,7 @@ impl<D: Disk> Log<D> {
     /// Makes room, so that the next append of at most so many bytes takes no memory.
     pub fn reserve(&mut self, bytes: u64) -> Result<(), NoMemory>
         ensures ready { OnOk result ((n : ℕ) → n ≤ bytes → n ≤ MAX_PAYLOAD → n < self.new.ready) }
+        ensures already { bytes < self.old.ready → IsOk result }
         ensures kept { self.new ≡ record self.old { current = self.new.current; ready = self.new.ready } }
         ensures more { self.old.ready ≤ self.new.ready }
         ensures state { D.state self.new.current ≡ D.state self.old.current }
@@ -115,6 +116,73 @@ impl<D: Disk> Log<D> {
         self.current.ready(bytes + 6)?;
         self.ready = bytes + 1;
         Ok(())
+    }
+
+    /// Adds a record at the end. Its payload has at most 8 MiB.
+    ///
+    /// At `Ok` it is acknowledged: from then on each crash leaves it. After `Full` and `NoMemory` the log is as it
+    /// was. After `DiskFault` it isn't sound, and `reopen` comes next: the record may be there, or it isn't.
+    pub fn append(&mut self, payload: &[u8]) -> Result<(), LogFault>
+        requires sound { self.old.sound ≡ true }
+        requires short { length payload.now ≤ MAX_PAYLOAD }
+
+        ensures appended { OnOk result (self.new ≡ record self.old { current = self.new.current; records = self.old.records ++ payload.now ∷ []; ready = 0 }) }
+        // A crash at any moment of the call leaves the records from before it, or these and the new one.
+        ensures any_moment { AnyMoment (D.state self.old.current) (D.state self.old.other) (D.state self.new.current) (D.state self.new.other) (IsBeforeOrAfter self.old.records payload.now) }
+        ensures acknowledged { OnOk result (CrashLeaves (D.state self.new.current) (D.state self.new.other) (λ c d. records_of c d ≡ Some self.new.records)) }
+
+        ensures full { self.old.most < log_size (self.old.records ++ payload.now ∷ []) → result ≡ Err (LogFault.Full (min (log_size (self.old.records ++ payload.now ∷ [])) (2 ^ 64 - 1))) }
+        ensures full_only { (bytes : ℕ) → IsErrOf result (LogFault.Full bytes) → self.old.most < log_size (self.old.records ++ payload.now ∷ []) }
+        ensures no_memory { IsErrOf result LogFault.NoMemory → self.old.ready ≤ length payload.now }
+        ensures not_refused { (found : List ℕ) (bytes : ℕ) → IsErrOf result (LogFault.NotALog found bytes) → ⊥ }
+        ensures cause { FaultCause (D.faults self.old.current) (D.faults self.new.current) (IsErrOf result LogFault.DiskFault) }
+
+        ensures failed { IsErrOf result LogFault.DiskFault → self.new ≡ record self.old { current = self.new.current; ready = 0; sound = false } }
+        ensures kept { OnErr result (result ≢ Err LogFault.DiskFault → (self.new ≡ record self.old { current = self.new.current; ready = self.new.ready }) × (D.state self.new.current ≡ D.state self.old.current)) }
+    {
+        let bytes = payload.len() as u64;
+        if self.most <= self.gate || self.most - self.gate - 1 < bytes + 5 {
+            return Err(LogFault::Full {
+                bytes: self.gate.saturating_add(bytes + 6),
+            });
+        }
+        self.reserve(bytes)?;
+        self.write_reserved(payload)
+    }
+
+    /// Writes a record for which room was made.
+    fn write_reserved(&mut self, payload: &[u8]) -> Result<(), LogFault>
+        requires sound { self.old.sound ≡ true }
+        requires short { length payload.now ≤ MAX_PAYLOAD }
+        requires ready { length payload.now < self.old.ready }
+        requires fits { log_size (self.old.records ++ payload.now ∷ []) < 2 ^ 64 }
+        ensures appended { OnOk result (self.new ≡ record self.old { current = self.new.current; records = self.old.records ++ payload.now ∷ []; ready = 0 }) }
+        ensures failed { OnErr result (self.new ≡ record self.old { current = self.new.current; ready = 0; sound = false }) }
+        ensures only { IfErr result (λ fault. fault ≡ LogFault.DiskFault) }
+        ensures any_moment { AnyMoment (D.state self.old.current) (D.state self.old.other) (D.state self.new.current) (D.state self.new.other) (IsBeforeOrAfter self.old.records payload.now) }
+        ensures acknowledged { OnOk result (CrashLeaves (D.state self.new.current) (D.state self.new.other) (λ c d. records_of c d ≡ Some self.new.records)) }
+        ensures cause { FaultCause (D.faults self.old.current) (D.faults self.new.current) (IsErrOf result LogFault.DiskFault) }
+    {
+        let Ok(()) = self.next.extend_from_slice(payload) else {
+            unreachable!()
+        };
+        fill_frame(&mut self.frame, payload);
+        let done = append_frame(&mut self.current, self.gate, &self.frame);
+        self.frame.clear();
+        self.ready = 0;
+        match done {
+            Ok(()) => {
+                let record_bytes = mem::replace(&mut self.next, Vec::new(self.alloc));
+                self.records.push_reserved(Bytes::from_vec(record_bytes));
+                self.gate += payload.len() as u64 + 5;
+                Ok(())
+            }
+            Err(_) => {
+                self.next.clear();
+                self.sound = false;
+                Err(LogFault::DiskFault)
+            }
+        }
     }
 }
 
