@@ -1,7 +1,7 @@
 -- The two files of a log that was opened, and what an opening may do to them.
 use Rattle.std.specs.Prelude.{bytes_eq, if◌then◌else◌, not, ◌&&◌, ◌||◌, ◌==◌, nat_le, nat_lt, drop, slice_index, ◌≡◌, ◌≢◌, ◌⊎◌, ◌≤◌, ℕ, ◌+◌, Bool, true, false, List, [], ◌∷◌, ◌++◌, length, take, Option, Some, None, Result}
 use Rattle.disk_core.specs.Counts.{HasRisen}
-use Rattle.disk_core.specs.DiskModel.{DiskState, synced, Becomes}
+use Rattle.disk_core.specs.DiskModel.{DiskState, IsSure, synced, Becomes}
 use Rattle.byteorder.specs.Endian.{little_number}
 use Rattle.record_log.specs.Recovery.{head_of, has_mark, is_current, records_of, shown_of}
 use Rattle.record_log.specs.Format.{mark}
@@ -53,6 +53,11 @@ pub record IsRefused (main spare found : List ℕ) (size : ℕ) : Type 0 where
   pub none : records_of main spare ≡ None
   pub shows : found ≡ take 8 (head_of (shown_of main spare))
   pub shows_size : size ≡ length (shown_of main spare)
+
+-- A disk without bytes, which a crash leaves so.
+pub record IsEmpty (s : DiskState) : Type 0 where
+  pub seen : s.seen ≡ []
+  pub sure : IsSure s
 
 -- An opening changes nothing but that it may make a file sure.
 abbrev pub MaySync : DiskState → DiskState → Type 0

@@ -1,10 +1,10 @@
 //! The file layer: which of two files is the current one, by their marks, gates and generations.
 ghost use Rattle.std.specs.Prelude.{◌≡◌, ◌≢◌, None, ◌≤◌, ◌<◌, ◌+◌, ◌^◌, ◌&&◌, ◌||◌, ◌==◌, OnErr, List, nat_le, nat_lt, bytes_eq, ℕ, Some, take, drop, slice_index, length, IfOk, OnOk, IsErrOf, option_map};
 ghost use Rattle.disk_core.specs.Counts.{HasCause};
-ghost use Rattle.disk_core.specs.DiskModel.{Becomes, DiskState, synced};
+ghost use Rattle.disk_core.specs.DiskModel.{Becomes, DiskState, IsSure, LeavesOnly, MayLeave, synced};
 ghost use Rattle.byteorder.specs.Endian.{little_number};
-ghost use Rattle.record_log.specs.Format.{mark};
-ghost use Rattle.record_log.specs.Files.{Counted, FaultCause, IsHead, IsLogIn, IsRefused, MaySync, leads, shown_head};
+ghost use Rattle.record_log.specs.Format.{mark, new_file};
+ghost use Rattle.record_log.specs.Files.{Counted, FaultCause, IsEmpty, IsHead, IsLogIn, IsRefused, MaySync, leads, shown_head};
 ghost use Rattle.record_log.specs.Layout.{EndsAt, size_of};
 ghost use Rattle.record_log.specs.Recovery.{records_past};
 ghost use Rattle.record_log.specs.RecordLists.{list_of};
@@ -86,6 +86,7 @@ fn read_body<D: Disk>(alloc: Global, disk: &mut D, head: &Head) -> Result<Vec<u8
     ensures fits { IfOk result (λ body. length body.items + 17 < 2 ^ 64) }
     ensures state { D.state disk.new ≡ D.state disk.old }
     ensures refused { (found : List ℕ) (size : ℕ) → IsErrOf result (LogFault.NotALog found size) → ⊥ }
+    ensures not_full { (size : ℕ) → IsErrOf result (LogFault.Full size) → ⊥ }
     ensures cause { FaultCause (D.faults disk.old) (D.faults disk.new) (IsErrOf result LogFault.DiskFault) }
 {
     let mut body = vec![in alloc; 0u8; head.length.saturating_sub(HEAD as u64) as usize]?;
@@ -99,6 +100,7 @@ fn make_sure<D: Disk>(disk: &mut D) -> Result<(), LogFault>
     ensures sure { OnOk result (D.state disk.new ≡ option_map synced (D.state disk.old)) }
     ensures unchanged { OnErr result (D.state disk.new ≡ D.state disk.old) }
     ensures refused { (found : List ℕ) (size : ℕ) → IsErrOf result (LogFault.NotALog found size) → ⊥ }
+    ensures not_full { (size : ℕ) → IsErrOf result (LogFault.Full size) → ⊥ }
     ensures cause { FaultCause (D.faults disk.old) (D.faults disk.new) (IsErrOf result LogFault.DiskFault) }
 {
     disk.ready(0)?;
@@ -140,6 +142,7 @@ fn read_current<D: Disk>(alloc: Global, disk: &mut D, head: &Head, refusal: LogF
     ensures size { IfOk result (λ body. size_of (list_of body.records) ≡ body.size) }
     ensures broken { (found : List ℕ) (size : ℕ) → IsErrOf result (LogFault.NotALog found size) → (LogFault.NotALog found size ≡ refusal)
         × ((s : DiskState) → D.state disk.old ≡ Some s → IsHead s.seen head.now → records_past 0 (drop 17 s.seen) ≡ None) }
+    ensures not_full { (size : ℕ) → IsErrOf result (LogFault.Full size) → LogFault.Full size ≡ refusal }
     ensures state { D.state disk.new ≡ D.state disk.old }
     ensures cause { refusal ≢ LogFault.DiskFault → FaultCause (D.faults disk.old) (D.faults disk.new) (IsErrOf result LogFault.DiskFault) }
 {
@@ -158,6 +161,7 @@ fn read_files<D: Disk>(alloc: Global, main: &mut D, spare: &mut D) -> Result<Fou
     ensures fits { IfOk result (λ found. found.gate + 1 < 2 ^ 64) }
     ensures refused { (found : List ℕ) (size : ℕ) → IsErrOf result (LogFault.NotALog found size)
         → (a b : DiskState) → D.state main.old ≡ Some a → D.state spare.old ≡ Some b → IsRefused a.seen b.seen found size }
+    ensures not_full { (size : ℕ) → IsErrOf result (LogFault.Full size) → ⊥ }
     ensures state { (D.state main.new ≡ D.state main.old) × (D.state spare.new ≡ D.state spare.old) }
     ensures cause { Counted (D.faults main.old) (D.faults main.new) (D.faults spare.old) (D.faults spare.new) (IsErrOf result LogFault.DiskFault) }
 {
@@ -190,6 +194,32 @@ fn read_files<D: Disk>(alloc: Global, main: &mut D, spare: &mut D) -> Result<Fou
     Err(fault)
 }
 
+/// The bytes of a new file.
+fn new_bytes(gate: u8, generation: u64) -> [u8; 18]
+    ensures { result ≡ new_file gate generation }
+{
+    let mut bytes = [0; 18];
+    bytes[..8].copy_from_slice(MARK);
+    bytes[8] = gate;
+    LittleEndian::write_u64(&mut bytes[9..], generation);
+    bytes
+}
+
+/// Makes a new file of a log.
+pub fn make_file<D: Disk>(disk: &mut D, gate: u8, generation: u64) -> Result<(), LogFault>
+    requires { (s : DiskState) → D.state disk.old ≡ Some s → IsEmpty s }
+    ensures any_moment { Becomes (λ s t. LeavesOnly s t (λ bytes. length bytes ≤ 18)) (D.state disk.old) (D.state disk.new) }
+    ensures made { OnOk result (Becomes (λ s t. IsSure t × (t.seen ≡ new_file gate generation)) (D.state disk.old) (D.state disk.new)) }
+    ensures refused { (found : List ℕ) (size : ℕ) → IsErrOf result (LogFault.NotALog found size) → ⊥ }
+    ensures not_full { (size : ℕ) → IsErrOf result (LogFault.Full size) → ⊥ }
+    ensures cause { FaultCause (D.faults disk.old) (D.faults disk.new) (IsErrOf result LogFault.DiskFault) }
+{
+    disk.ready(18)?;
+    disk.write_at(0, &new_bytes(gate, generation))?;
+    disk.sync()?;
+    Ok(())
+}
+
 /// Makes both files sure, the main one first, and reads the current one. It writes nothing.
 pub fn recover<D: Disk>(alloc: Global, main: &mut D, spare: &mut D) -> Result<Found, LogFault>
     ensures told { IfOk result (λ found. (a b : DiskState) → D.state main.old ≡ Some a → D.state spare.old ≡ Some b → IsLogIn found.in_spare a.seen b.seen (list_of found.records) found.gate) }
@@ -197,11 +227,27 @@ pub fn recover<D: Disk>(alloc: Global, main: &mut D, spare: &mut D) -> Result<Fo
     ensures fits { IfOk result (λ found. found.gate + 1 < 2 ^ 64) }
     ensures refused { (found : List ℕ) (size : ℕ) → IsErrOf result (LogFault.NotALog found size)
         → (a b : DiskState) → D.state main.old ≡ Some a → D.state spare.old ≡ Some b → IsRefused a.seen b.seen found size }
+    ensures not_full { (size : ℕ) → IsErrOf result (LogFault.Full size) → ⊥ }
     ensures sure { OnOk result ((D.state main.new ≡ option_map synced (D.state main.old)) × (D.state spare.new ≡ option_map synced (D.state spare.old))) }
     ensures syncs { Becomes MaySync (D.state main.old) (D.state main.new) × Becomes MaySync (D.state spare.old) (D.state spare.new) }
+    // A crash at any moment leaves what a crash just before the call could have left.
+    ensures any_moment { Becomes (λ s t. LeavesOnly s t (MayLeave s.now)) (D.state main.old) (D.state main.new) × Becomes (λ s t. LeavesOnly s t (MayLeave s.now)) (D.state spare.old) (D.state spare.new) }
+    ensures cause { Counted (D.faults main.old) (D.faults main.new) (D.faults spare.old) (D.faults spare.new) (IsErrOf result LogFault.DiskFault) }
+{
+    make_sure_both(main, spare)?;
+    read_files(alloc, main, spare)
+}
+
+/// Makes both files sure, the main one first.
+fn make_sure_both<D: Disk>(main: &mut D, spare: &mut D) -> Result<(), LogFault>
+    ensures sure { OnOk result ((D.state main.new ≡ option_map synced (D.state main.old)) × (D.state spare.new ≡ option_map synced (D.state spare.old))) }
+    ensures syncs { Becomes MaySync (D.state main.old) (D.state main.new) × Becomes MaySync (D.state spare.old) (D.state spare.new) }
+    ensures any_moment { Becomes (λ s t. LeavesOnly s t (MayLeave s.now)) (D.state main.old) (D.state main.new) × Becomes (λ s t. LeavesOnly s t (MayLeave s.now)) (D.state spare.old) (D.state spare.new) }
+    ensures refused { (found : List ℕ) (size : ℕ) → IsErrOf result (LogFault.NotALog found size) → ⊥ }
+    ensures not_full { (size : ℕ) → IsErrOf result (LogFault.Full size) → ⊥ }
     ensures cause { Counted (D.faults main.old) (D.faults main.new) (D.faults spare.old) (D.faults spare.new) (IsErrOf result LogFault.DiskFault) }
 {
     make_sure(main)?;
     make_sure(spare)?;
-    read_files(alloc, main, spare)
+    Ok(())
 }

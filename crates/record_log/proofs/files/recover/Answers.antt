@@ -9,17 +9,15 @@ map_ok (Err e) P Q f h = tt
 
 pub returns-clause-told : goal.returns-clause-told
 returns-clause-told g c =
-    let main = c.in_ok-make_sure.ensures {u = tt} in
-    let spare = c.in_ok-make_sure-2.ensures {u = tt} in
+    let both = c.in_ok-make_sure_both.ensures {u = tt} in
     map_ok
     c.read_files.result
     _
     _
-    (λ found told a b is_a is_b. told (synced a) (synced b) (main.sure ∙ ap (λ o. option_map synced o) is_a) (spare.sure ∙ ap (λ o. option_map synced o) is_b))
+    (λ found told a b is_a is_b. told (synced a) (synced b) (both.sure.0 ∙ ap (λ o. option_map synced o) is_a) (both.sure.1 ∙ ap (λ o. option_map synced o) is_b))
     c.read_files.ensures.told
 
 pub returns-clause-refused : goal.returns-clause-refused
 returns-clause-refused g c = λ found size is a b is_a is_b.
-    let main = c.in_ok-make_sure.ensures {u = tt} in
-    let spare = c.in_ok-make_sure-2.ensures {u = tt} in
-    c.read_files.ensures.refused found size is (synced a) (synced b) (main.sure ∙ ap (λ o. option_map synced o) is_a) (spare.sure ∙ ap (λ o. option_map synced o) is_b)
+    let both = c.in_ok-make_sure_both.ensures {u = tt} in
+    c.read_files.ensures.refused found size is (synced a) (synced b) (both.sure.0 ∙ ap (λ o. option_map synced o) is_a) (both.sure.1 ∙ ap (λ o. option_map synced o) is_b)
