@@ -34,9 +34,31 @@ log_code {D = D} d =
 abbrev pub disks_of : {D : Type 0} → LogView D → DiskPair D
 disks_of log = if log.in_spare then record { main = log.other; spare = log.current } else record { main = log.current; spare = log.other }
 
+-- The disk of the current file, and the other one, where the bool says that the spare file is the current one.
+abbrev pub ordered_of : {D : Type 0} → Bool → DiskPair D → D × D
+ordered_of true disks = (disks.spare, disks.main)
+ordered_of false disks = (disks.main, disks.spare)
+
+-- Two disks as a pair.
+abbrev pub pair_of : {D : Type 0} → D → D → D × D
+pair_of first second = (first, second)
+
+-- A main and a spare disk.
+abbrev pub disk_pair : {D : Type 0} → D → D → DiskPair D
+disk_pair main spare = record { main = main; spare = spare }
+
 -- Where the disks tell: all of both files is sure, and they are a log with these records, whose closing gate stands at that place.
 abbrev pub IsStored : Option DiskState → Option DiskState → List (List ℕ) → ℕ → Type 0
 IsStored current other records gate = (a b : DiskState) → current ≡ Some a → other ≡ Some b → IsSure a × IsSure b × IsLog a.seen b.seen records gate
+
+-- The same of the main and the spare file, where the bool says that the spare one is the current one.
+abbrev pub IsStoredIn : Bool → Option DiskState → Option DiskState → List (List ℕ) → ℕ → Type 0
+IsStoredIn true main spare records gate = IsStored spare main records gate
+IsStoredIn false main spare records gate = IsStored main spare records gate
+
+-- A crash at any moment from the old state on up to the new one leaves what a crash just before could have left.
+abbrev pub LeavesAsBefore : Option DiskState → Option DiskState → Type 0
+LeavesAsBefore old new = Becomes (λ s t. LeavesOnly s t (MayLeave s.now)) old new
 
 -- What was made ready: so many bytes, less one, of a payload.
 pub record HasRoom (calls room ready next frame slots : ℕ) : Type 0 where
@@ -66,3 +88,7 @@ AnyMoment current other current' other' P = (a b : DiskState) → current ≡ So
 -- The files stand for the records from before, or for these and the one that is appended.
 abbrev pub IsBeforeOrAfter : List (List ℕ) → List ℕ → List ℕ → List ℕ → Type 0
 IsBeforeOrAfter records payload current other = (records_of current other ≡ Some records) ⊎ (records_of current other ≡ Some (records ++ payload ∷ []))
+
+-- The files stand for a log without records, or for none.
+abbrev pub IsNew : List ℕ → List ℕ → Type 0
+IsNew main spare = (records_of main spare ≡ Some []) ⊎ (records_of main spare ≡ None)
