@@ -6,9 +6,14 @@
 #![tactic(auto)]
 
 mod disk;
+mod file;
 mod image;
 mod memory;
 
 pub use disk::{Disk, Failed, NoMemory};
+pub use file::{FileDisk, open_file_disk};
 pub use image::Image;
 pub use memory::MemDisk;
+
+#[cfg(test)]
+mod tests;
