@@ -15,3 +15,6 @@ pub use records::{Bytes, Records};
 
 /// The longest payload of a record, in bytes.
 pub const MAX_PAYLOAD: u64 = 8_388_608;
+
+#[cfg(test)]
+mod tests;

@@ -18,6 +18,7 @@ use std::marker::Model;
 use std::mem;
 
 /// A list of records on two disks.
+#[derive(Drop)]
 pub struct Log<D: Disk> {
     alloc: Global,
     /// The disk of the current file.
