@@ -37,7 +37,7 @@ goes_on s t P seen m so_far here = record {
   more = so_far.more ++ m ∷ [];
   clock = ap (λ ms. ms ++ m ∷ []) so_far.clock ∙ append_assoc s.moments so_far.more (m ∷ []);
   each = λ bytes left. ⊎_elim
-  (λ first. so_far.each bytes (inl first))
-  (λ some. ⊎_elim (λ old. so_far.each bytes (inr old)) (here bytes) (since s t P so_far m (at_moment t seen m) refl bytes some))
-  left;
+      (λ first. so_far.each bytes (inl first))
+      (λ some. ⊎_elim (λ old. so_far.each bytes (inr old)) (here bytes) (since s t P so_far m (at_moment t seen m) refl bytes some))
+      left;
 }

@@ -97,7 +97,6 @@ impl<F: OpenFile + Read + Write + Seek + Drop> Disk for FileDisk<F> {
 
     ghost calls = { λ _. 6 };
 
-
     ghost seen_may_stay = { λ d s is. Prim.cc };
 
     ghost all_or_none = { λ d e. refl };

@@ -135,7 +135,13 @@ fn halved(alloc: Global, piece: &[u8], old: &[u8]) -> Result<Vec<u8>, AllocError
 }
 
 /// Writes over the bytes what an image leaves of a piece.
-fn write_image(alloc: Global, image: Image, at: u64, piece: &[u8], bytes: &mut Vec<u8>) -> Result<(), AllocError>
+fn write_image(
+    alloc: Global,
+    image: Image,
+    at: u64,
+    piece: &[u8],
+    bytes: &mut Vec<u8>,
+) -> Result<(), AllocError>
     ensures { OnOk result (bytes.new.items ≡ patched at (imaged image piece.now (drop at bytes.old.items)) bytes.old.items) }
 {
     let at = (at as usize).min(bytes.len());
@@ -147,7 +153,13 @@ fn write_image(alloc: Global, image: Image, at: u64, piece: &[u8], bytes: &mut V
 }
 
 /// Makes of the bytes what an image leaves of these calls, whose pieces stand one after the other.
-fn replay(alloc: Global, image: Image, calls: &[Call], pieces: &[u8], bytes: &mut Vec<u8>) -> Result<(), AllocError>
+fn replay(
+    alloc: Global,
+    image: Image,
+    calls: &[Call],
+    pieces: &[u8],
+    bytes: &mut Vec<u8>,
+) -> Result<(), AllocError>
     requires { total calls.now ≤ length pieces.now }
     ensures { OnOk result (bytes.new.items ≡ image_steps image (changes calls.now pieces.now) bytes.old.items) }
 {
@@ -176,7 +188,13 @@ fn cut_image(image: Image, len: u64, bytes: &mut Vec<u8>)
 }
 
 /// What an image leaves of these calls on a disk that had these bytes first.
-fn crash_bytes(alloc: Global, image: Image, first: &[u8], calls: &[Call], pieces: &[u8]) -> Result<Vec<u8>, AllocError>
+fn crash_bytes(
+    alloc: Global,
+    image: Image,
+    first: &[u8],
+    calls: &[Call],
+    pieces: &[u8],
+) -> Result<Vec<u8>, AllocError>
     requires { total calls.now ≡ length pieces.now }
     ensures { IfOk result (λ v. v.items ≡ image_of image (called calls.now pieces.now (start first.now)).now) }
 {

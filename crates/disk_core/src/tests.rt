@@ -3,77 +3,72 @@ use std::alloc::Global;
 use std::process::Abort;
 use std::test::Fail;
 
-// A disk with the sure bytes 1 to 6, on which 7, 8, 9 were written from place 4 on.
-fn written_over(rt: &impl Abort, alloc: Global) -> Result<MemDisk, Fail> {
-    let bytes = [1, 2, 3, 4, 5, 6].to_vec(alloc)?;
-    let mut disk = MemDisk::new(alloc, bytes)?;
-    disk.ready(3)?;
-    assert!(rt; disk.write_at(4, &[7, 8, 9]).is_ok());
-    Ok(disk)
+fn disk_of(alloc: Global, bytes: &[u8]) -> Result<MemDisk, NoMemory> {
+    MemDisk::new(alloc, Vec::from_slice(alloc, bytes)?)
+}
+
+fn write(rt: &impl Abort, disk: &mut MemDisk, at: u64, bytes: &[u8]) -> Result<bool, NoMemory> {
+    disk.ready(bytes.len() as u64)?;
+    assert!(rt; at as usize <= disk.bytes().len());
+    Ok(disk.write_at(at, bytes).is_ok())
+}
+
+fn cut(rt: &impl Abort, disk: &mut MemDisk, len: u64) -> Result<bool, NoMemory> {
+    disk.ready(0)?;
+    assert!(rt; len as usize <= disk.bytes().len());
+    Ok(disk.cut(len).is_ok())
+}
+
+fn sync(disk: &mut MemDisk) -> Result<bool, NoMemory> {
+    disk.ready(0)?;
+    Ok(disk.sync().is_ok())
+}
+
+fn left_is(
+    rt: &impl Abort,
+    alloc: Global,
+    disk: &MemDisk,
+    image: Image,
+    want: &[u8],
+) -> Result<(), NoMemory> {
+    let left = disk.crashed(alloc, image)?;
+    assert_eq!(rt; left.bytes(), want);
+    Ok(())
 }
 
 #[test]
 fn a_stop_leaves_its_image(rt: HostRuntime) -> Result<(), Fail> {
     let alloc = rt.alloc();
-    let table: [(Image, &[u8]); 4] = [
-        (Image::Keep, &[1, 2, 3, 4, 7, 8, 9]),
-        (Image::Drop, &[1, 2, 3, 4, 5, 6]),
-        (Image::Half, &[1, 2, 3, 4, 7, 6, 0]),
-        (Image::Junk, &[1, 2, 3, 4, 255, 255, 255]),
-    ];
-    for (image, want) in table {
-        let disk = written_over(&rt, alloc)?;
-        let left = disk.crashed(alloc, image)?;
-        assert_eq!(rt; left.bytes(), want);
-        let kept = left.crashed(alloc, Image::Drop)?;
-        assert_eq!(rt; kept.bytes(), want);
-    }
-    Ok(())
-}
-
-#[test]
-fn a_sync_makes_all_sure(rt: HostRuntime) -> Result<(), Fail> {
-    let alloc = rt.alloc();
-    let mut disk = written_over(&rt, alloc)?;
-    disk.ready(0)?;
-    disk.sync()?;
-    assert_eq!(rt; disk.crashed(alloc, Image::Drop)?.bytes(), [1, 2, 3, 4, 7, 8, 9].as_slice());
-    disk.ready(0)?;
-    let length = disk.length()?;
-    assert_eq!(rt; length, 7);
-    Ok(())
-}
-
-#[test]
-fn a_cut_that_is_not_sure_may_come_back(rt: HostRuntime) -> Result<(), Fail> {
-    let alloc = rt.alloc();
-    let mut disk = MemDisk::new(alloc, [1, 2, 3].to_vec(alloc)?)?;
-    disk.ready(0)?;
-    disk.cut(1)?;
-    assert_eq!(rt; disk.bytes(), [1].as_slice());
-    assert_eq!(rt; disk.crashed(alloc, Image::Drop)?.bytes(), [1, 2, 3].as_slice());
-    assert_eq!(rt; disk.crashed(alloc, Image::Keep)?.bytes(), [1].as_slice());
+    let mut disk = disk_of(alloc, b"abcdef")?;
+    assert!(rt; write(&rt, &mut disk, 4, b"xyz")?);
+    left_is(&rt, alloc, &disk, Image::Keep, b"abcdxyz")?;
+    left_is(&rt, alloc, &disk, Image::Drop, b"abcdef")?;
+    left_is(&rt, alloc, &disk, Image::Half, b"abcdxf\0")?;
+    left_is(&rt, alloc, &disk, Image::Junk, b"abcd\xFF\xFF\xFF")?;
+    assert!(rt; sync(&mut disk)?);
+    left_is(&rt, alloc, &disk, Image::Drop, b"abcdxyz")?;
+    assert!(rt; cut(&rt, &mut disk, 1)?);
+    left_is(&rt, alloc, &disk, Image::Keep, b"a")?;
+    left_is(&rt, alloc, &disk, Image::Drop, b"abcdxyz")?;
     Ok(())
 }
 
 #[test]
 fn a_call_fails_where_it_was_planned(rt: HostRuntime) -> Result<(), Fail> {
     let alloc = rt.alloc();
-    let mut disk = MemDisk::new(alloc, Vec::new(alloc))?;
+    let mut disk = disk_of(alloc, b"")?;
     disk.fail_at(2)?;
     disk.stop_at(3, Image::Keep)?;
-    disk.ready(9)?;
-    disk.write_at(0, &[1])?;
-    assert_eq!(rt; disk.sync(), Err(Failed));
-    assert_eq!(rt; disk.bytes(), [1].as_slice());
-    assert_eq!(rt; disk.write_at(0, &[2, 3]), Err(Failed));
+    assert!(rt; write(&rt, &mut disk, 0, b"a")?);
+    assert!(rt; !sync(&mut disk)?);
+    assert!(rt; !write(&rt, &mut disk, 0, b"bc")?);
     assert_eq!(rt; disk.stopped(), Some(Image::Keep));
     assert_eq!(rt; disk.made(), 3);
     // A stopped disk fails in each call.
     assert_eq!(rt; disk.length(), Err(Failed));
     let mut room = [0; 2];
     assert_eq!(rt; disk.read(0, &mut room), Err(Failed));
-    assert_eq!(rt; disk.crashed(alloc, Image::Keep)?.bytes(), [2, 3].as_slice());
+    left_is(&rt, alloc, &disk, Image::Keep, b"bc")?;
     Ok(())
 }
 

@@ -15,8 +15,8 @@ module _ (a b : List ℕ) (h k : Head) (of_a : IsHead a h) (of_b : IsHead b k) w
 
   pub leads_is : leads h k ≡ is_current a b
   leads_is = λ i.
-    (nat_le 18 (of_a.length_file i) && (slice_index (of_a.bytes i) 8 == 1))
-    && (not (nat_le 18 (of_b.length_file i) && (slice_index (of_b.bytes i) 8 == 1)) || nat_lt (little_number 8 (drop 9 (of_b.bytes i))) (little_number 8 (drop 9 (of_a.bytes i))))
+      (nat_le 18 (of_a.length_file i) && (slice_index (of_a.bytes i) 8 == 1))
+      && (not (nat_le 18 (of_b.length_file i) && (slice_index (of_b.bytes i) 8 == 1)) || nat_lt (little_number 8 (drop 9 (of_b.bytes i))) (little_number 8 (drop 9 (of_a.bytes i))))
 
 shown_choice : (c : Bool) (a b : List ℕ) (h k : Head) → IsHead a h → IsHead b k → IsHead (if c then b else a) (if c then k else h)
 shown_choice true a b h k of_a of_b = of_b

@@ -13,8 +13,8 @@ pub kept_more : {o o' p : Option DiskState} {calls calls' room room' gate ready 
     → frame'.items ≡ frame.items → vec_capacity frame ≤ vec_capacity frame' → slots ≤ slots' → IsKept o' p calls' room' records' gate ready sound next' frame' slots'
 kept_more {o = o} {o' = o'} {p = p} {gate = gate} {records = records} {records' = records'} kept same more_calls more_room same_records same_next more_next same_frame more_frame more_slots = record {
   stored = λ is.
-    let first : IsStored o p records' gate = subst (λ (rs : List (List ℕ)). IsStored o p rs gate) (sym same_records) (kept.stored is) in
-    subst (λ (x : Option DiskState). IsStored x p records' gate) (sym same) first;
+      let first : IsStored o p records' gate = subst (λ (rs : List (List ℕ)). IsStored o p rs gate) (sym same_records) (kept.stored is) in
+      subst (λ (x : Option DiskState). IsStored x p records' gate) (sym same) first;
   size = λ is. ap (λ (rs : List (List ℕ)). 17 + size_of rs) same_records ∙ kept.size is;
   fits = kept.fits;
   has_room = λ some. let r = kept.has_room some in record {

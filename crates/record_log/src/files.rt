@@ -9,8 +9,8 @@ ghost use Rattle.record_log.specs.Layout.{EndsAt, size_of};
 ghost use Rattle.record_log.specs.Recovery.{records_past};
 ghost use Rattle.record_log.specs.RecordLists.{list_of};
 
-use crate::{LogFault, Records};
 use crate::reading::{Body, ReadFault, read_records};
+use crate::{LogFault, Records};
 use byteorder::{ByteOrder, LittleEndian};
 use disk_core::{Disk, Failed};
 use std::alloc::Global;
@@ -136,7 +136,12 @@ fn refusal(main: &Head, spare: &Head) -> LogFault
 }
 
 /// Reads the records of the current file.
-fn read_current<D: Disk>(alloc: Global, disk: &mut D, head: &Head, refusal: LogFault) -> Result<Body, LogFault>
+fn read_current<D: Disk>(
+    alloc: Global,
+    disk: &mut D,
+    head: &Head,
+    refusal: LogFault,
+) -> Result<Body, LogFault>
     ensures told { IfOk result (λ body. (s : DiskState) → D.state disk.old ≡ Some s → IsHead s.seen head.now → EndsAt (drop 17 s.seen) (list_of body.records) body.size) }
     ensures fits { IfOk result (λ body. body.size + 18 < 2 ^ 64) }
     ensures size { IfOk result (λ body. size_of (list_of body.records) ≡ body.size) }

@@ -105,7 +105,11 @@ impl<D: Disk> Log<D> {
     /// Opens the files of a log, whatever a crash made of them. It makes both sure and writes nothing.
     ///
     /// A refused call hands the disks back beside the fault.
-    pub fn open(alloc: Global, disks: DiskPair<D>, most: u64) -> Result<Log<D>, (LogFault, DiskPair<D>)>
+    pub fn open(
+        alloc: Global,
+        disks: DiskPair<D>,
+        most: u64,
+    ) -> Result<Log<D>, (LogFault, DiskPair<D>)>
         ensures found { IfOk result (λ log. (a b : DiskState) → D.state disks.main ≡ Some a → D.state disks.spare ≡ Some b → records_of a.seen b.seen ≡ Some log.records) }
         ensures sound { IfOk result (λ log. (log.sound ≡ true) × (log.most ≡ most)) }
         ensures acknowledged { IfOk result (λ log. CrashLeaves (D.state log.current) (D.state log.other) (λ c d. records_of c d ≡ Some log.records)) }
@@ -136,7 +140,11 @@ impl<D: Disk> Log<D> {
     /// Makes a new log on two disks without bytes. It may have at most 1 GiB.
     ///
     /// A file that is torn while it is made is `NotALog` later. A refused call hands the disks back beside the fault.
-    pub fn create(alloc: Global, disks: DiskPair<D>, most: u64) -> Result<Log<D>, (LogFault, DiskPair<D>)>
+    pub fn create(
+        alloc: Global,
+        disks: DiskPair<D>,
+        most: u64,
+    ) -> Result<Log<D>, (LogFault, DiskPair<D>)>
         requires limit { most ≤ 2 ^ 30 }
         requires empty { (s : DiskState) → D.state disks.main ≡ Some s → IsEmpty s }
         requires spare_empty { (s : DiskState) → D.state disks.spare ≡ Some s → IsEmpty s }

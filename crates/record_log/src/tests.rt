@@ -1,5 +1,5 @@
-use crate::{Bytes, DiskPair, Log, LogFault};
-use disk_core::{Disk, Image, MemDisk};
+use crate::{DiskPair, Log, LogFault, MAX_PAYLOAD};
+use disk_core::{Image, MemDisk, NoMemory};
 use std::alloc::Global;
 use std::process::Abort;
 use std::test::Fail;
@@ -11,7 +11,11 @@ const DECIDE: [u8; 27] = [
 
 const MOST: u64 = 1 << 20;
 
-fn open_found(alloc: Global, main: MemDisk, spare: MemDisk) -> Result<Log<MemDisk>, LogFault> {
+fn disk_of(alloc: Global, bytes: &[u8]) -> Result<MemDisk, NoMemory> {
+    MemDisk::new(alloc, Vec::from_slice(alloc, bytes)?)
+}
+
+fn open(alloc: Global, main: MemDisk, spare: MemDisk) -> Result<Log<MemDisk>, LogFault> {
     match Log::open(alloc, DiskPair { main, spare }, MOST) {
         Ok(log) => Ok(log),
         Err((fault, _)) => Err(fault),
@@ -27,60 +31,106 @@ fn records_are(rt: &impl Abort, log: &Log<MemDisk>, want: &[&[u8]]) {
 }
 
 // A new log whose main disk fails or stops at a call.
-fn new_log(rt: &impl Abort, alloc: Global, call: u64, stop: Option<Image>) -> Result<Log<MemDisk>, Fail> {
+fn new_log(
+    alloc: Global,
+    most: u64,
+    call: u64,
+    stop: Option<Image>,
+) -> Result<Log<MemDisk>, LogFault> {
     let mut main = MemDisk::new(alloc, Vec::new(alloc))?;
     match stop {
         Some(image) => main.stop_at(call, image)?,
         None => main.fail_at(call)?,
     }
     let spare = MemDisk::new(alloc, Vec::new(alloc))?;
-    match Log::create(alloc, DiskPair { main, spare }, MOST) {
+    match Log::create(alloc, DiskPair { main, spare }, most.min(1 << 30)) {
         Ok(log) => Ok(log),
-        Err((fault, _)) => {
-            assert!(rt; false, "{fault}");
-            Err(fault.into())
-        }
+        Err((fault, _)) => Err(fault),
     }
 }
+
+fn append(rt: &impl Abort, log: &mut Log<MemDisk>, payload: &[u8]) -> Result<(), LogFault> {
+    assert!(rt; log.is_sound());
+    assert!(rt; payload.len() as u64 <= MAX_PAYLOAD);
+    log.append(payload)
+}
+
+fn reopen(log: &mut Log<MemDisk>) -> Result<(), LogFault> {
+    log.reopen()
+}
+
+fn bytes_are(rt: &impl Abort, log: Log<MemDisk>, main_bytes: &[u8], spare_bytes: &[u8]) {
+    let DiskPair { main, spare } = log.into_disks();
+    assert_eq!(rt; main.bytes(), main_bytes);
+    assert_eq!(rt; spare.bytes(), spare_bytes);
+}
+
+// What is found after a stop of the main disk with an image.
+fn open_stopped(alloc: Global, log: Log<MemDisk>, image: Image) -> Result<Log<MemDisk>, LogFault> {
+    let DiskPair { main, spare } = log.into_disks();
+    let main = main.crashed(alloc, image)?;
+    let spare = spare.crashed(alloc, Image::Drop)?;
+    open(alloc, main, spare)
+}
+
+fn refused(
+    rt: &impl Abort,
+    alloc: Global,
+    main: &[u8],
+    spare: &[u8],
+    want: LogFault,
+) -> Result<(), NoMemory> {
+    match open(alloc, disk_of(alloc, main)?, disk_of(alloc, spare)?) {
+        Ok(_) => assert!(rt; false),
+        Err(fault) => assert_eq!(rt; fault, want),
+    }
+    Ok(())
+}
+
+const NEW_SPARE: &[u8] = b"SPFLOG01\0\0\0\0\0\0\0\0\0\0";
 
 #[test]
 fn a_record_stands_in_the_file_as_published(rt: HostRuntime) -> Result<(), Fail> {
     let alloc = rt.alloc();
-    let mut log = new_log(&rt, alloc, 0, None)?;
-    assert!(rt; log.is_sound());
-    log.append(&DECIDE)?;
-    let DiskPair { main, spare } = log.into_disks();
-    let mut want = b"SPFLOG01\x01\x01\0\0\0\0\0\0\0\x01\x1B\0\0\0".to_vec(alloc)?;
+    let mut log = new_log(alloc, MOST, 0, None)?;
+    append(&rt, &mut log, &DECIDE)?;
+    let mut want = Vec::from_slice(alloc, b"SPFLOG01\x01\x01\0\0\0\0\0\0\0\x01\x1B\0\0\0")?;
     want.extend_from_slice(&DECIDE)?;
     want.push(0)?;
-    assert_eq!(rt; main.bytes(), want.as_slice());
-    assert_eq!(rt; spare.bytes(), b"SPFLOG01\0\0\0\0\0\0\0\0\0\0".as_slice());
+    bytes_are(&rt, log, &want, NEW_SPARE);
     Ok(())
 }
 
-// The new log made two calls on its main disk, and the first record four.
+// A stop in a call of the second append: the new log made two calls on its main disk, and the first record four.
+fn torn(
+    rt: &impl Abort,
+    alloc: Global,
+    call: u64,
+    image: Image,
+    leaves: bool,
+) -> Result<(), LogFault> {
+    let mut log = new_log(alloc, MOST, call.saturating_add(6), Some(image))?;
+    append(rt, &mut log, b"aa")?;
+    assert_eq!(rt; append(rt, &mut log, b"bb"), Err(LogFault::DiskFault));
+    assert!(rt; !log.is_sound());
+    let log = open_stopped(alloc, log, image)?;
+    if leaves {
+        records_are(rt, &log, &[b"aa", b"bb"]);
+    } else {
+        records_are(rt, &log, &[b"aa"]);
+    }
+    Ok(())
+}
+
 #[test]
 fn a_torn_append_leaves_the_record_whole_or_not_at_all(rt: HostRuntime) -> Result<(), Fail> {
     let alloc = rt.alloc();
-    let without: &[&[u8]] = &[b"aa"];
-    let with: &[&[u8]] = &[b"aa", b"bb"];
-    let images = [Image::Keep, Image::Drop, Image::Half, Image::Junk];
-    // Which images of a stop in each of the four calls of the second append leave its record.
-    let kept = [[false; 4], [false; 4], [true, false, false, false], [true, false, false, false]];
-    for call in 0..4u64 {
-        for (image, leaves) in images.into_iter().zip(kept[call as usize]) {
-            let mut log = new_log(&rt, alloc, 7 + call, Some(image))?;
-            assert!(rt; log.is_sound());
-            log.append(b"aa")?;
-            assert!(rt; log.is_sound());
-            assert_eq!(rt; log.append(b"bb"), Err(LogFault::DiskFault));
-            assert!(rt; !log.is_sound());
-            let DiskPair { main, spare } = log.into_disks();
-            let main = main.crashed(alloc, image)?;
-            let spare = spare.crashed(alloc, Image::Drop)?;
-            let log = open_found(alloc, main, spare)?;
-            records_are(&rt, &log, if leaves { with } else { without });
-        }
+    for call in 1..=4 {
+        let gate_was_written = call > 2;
+        torn(&rt, alloc, call, Image::Keep, gate_was_written)?;
+        torn(&rt, alloc, call, Image::Drop, false)?;
+        torn(&rt, alloc, call, Image::Half, false)?;
+        torn(&rt, alloc, call, Image::Junk, false)?;
     }
     Ok(())
 }
@@ -88,20 +138,19 @@ fn a_torn_append_leaves_the_record_whole_or_not_at_all(rt: HostRuntime) -> Resul
 #[test]
 fn a_log_is_opened_again_after_a_fault(rt: HostRuntime) -> Result<(), Fail> {
     let alloc = rt.alloc();
-    let without: &[&[u8]] = &[b"aa"];
-    let with: &[&[u8]] = &[b"aa", b"bb"];
-    for call in 0..4u64 {
-        let mut log = new_log(&rt, alloc, 7 + call, None)?;
-        assert!(rt; log.is_sound());
-        log.append(b"aa")?;
-        assert!(rt; log.is_sound());
-        assert_eq!(rt; log.append(b"bb"), Err(LogFault::DiskFault));
-        log.reopen()?;
-        records_are(&rt, &log, if call == 3 { with } else { without });
-        assert!(rt; log.is_sound());
+    for call in 7..=10 {
+        let mut log = new_log(alloc, MOST, call, None)?;
+        append(&rt, &mut log, b"aa")?;
+        assert_eq!(rt; append(&rt, &mut log, b"bb"), Err(LogFault::DiskFault));
+        reopen(&mut log)?;
+        // Where the last sync alone failed, the gate is open.
+        if call == 10 {
+            records_are(&rt, &log, &[b"aa", b"bb"]);
+        } else {
+            records_are(&rt, &log, &[b"aa"]);
+        }
         log.reserve(2)?;
-        log.append(b"cc")?;
-        assert_eq!(rt; log.records().as_slice().last().map(Bytes::as_slice), Some(b"cc".as_slice()));
+        append(&rt, &mut log, b"cc")?;
     }
     Ok(())
 }
@@ -110,55 +159,74 @@ fn a_log_is_opened_again_after_a_fault(rt: HostRuntime) -> Result<(), Fail> {
 fn what_is_no_log_is_refused(rt: HostRuntime) -> Result<(), Fail> {
     let alloc = rt.alloc();
     let main: &[u8] = b"SPFLOG01\x01\x01\0\0\0\0\0\0\0\0";
-    let spare: &[u8] = b"SPFLOG01\0\0\0\0\0\0\0\0\0\0";
-    let marked = LogFault::NotALog { found: *b"SPFLOG01", length: 18 };
-    let table: [(&[u8], &[u8], LogFault); 7] = [
-        (b"notalog!", b"", LogFault::NotALog { found: *b"notalog!", length: 8 }),
-        (main, b"notalog!", LogFault::NotALog { found: *b"notalog!", length: 8 }),
-        (b"SPF", spare, LogFault::NotALog { found: *b"SPF\0\0\0\0\0", length: 3 }),
-        (b"", b"", LogFault::NotALog { found: [0; 8], length: 0 }),
-        // No file is current.
-        (spare, spare, marked),
-        // Both are, and neither leads.
-        (main, main, marked),
-        // The gate behind the head is open and no record stands there.
-        (b"SPFLOG01\x01\x01\0\0\0\0\0\0\0\x01", spare, marked),
-    ];
-    for (main, spare, want) in table {
-        let main = MemDisk::new(alloc, main.to_vec(alloc)?)?;
-        let spare = MemDisk::new(alloc, spare.to_vec(alloc)?)?;
-        match open_found(alloc, main, spare) {
-            Ok(_) => assert!(rt; false),
-            Err(fault) => assert_eq!(rt; fault, want),
-        }
-    }
+    let notalog = LogFault::NotALog {
+        found: *b"notalog!",
+        length: 8,
+    };
+    let marked = LogFault::NotALog {
+        found: *b"SPFLOG01",
+        length: 18,
+    };
+    refused(&rt, alloc, b"notalog!", b"", notalog)?;
+    refused(&rt, alloc, main, b"notalog!", notalog)?;
+    refused(
+        &rt,
+        alloc,
+        b"SPF",
+        NEW_SPARE,
+        LogFault::NotALog {
+            found: *b"SPF\0\0\0\0\0",
+            length: 3,
+        },
+    )?;
+    refused(
+        &rt,
+        alloc,
+        b"",
+        b"",
+        LogFault::NotALog {
+            found: [0; 8],
+            length: 0,
+        },
+    )?;
+    // No file is current; both are, and neither leads; the gate behind the head is open, and no record stands there.
+    refused(&rt, alloc, NEW_SPARE, NEW_SPARE, marked)?;
+    refused(&rt, alloc, main, main, marked)?;
+    refused(
+        &rt,
+        alloc,
+        b"SPFLOG01\x01\x01\0\0\0\0\0\0\0\x01",
+        NEW_SPARE,
+        marked,
+    )?;
     Ok(())
 }
 
 #[test]
 fn the_greater_generation_is_read(rt: HostRuntime) -> Result<(), Fail> {
     let alloc = rt.alloc();
-    let main = MemDisk::new(alloc, b"SPFLOG01\x01\x02\0\0\0\0\0\0\0\x01\x01\0\0\0a\0".to_vec(alloc)?)?;
-    let spare = MemDisk::new(alloc, b"SPFLOG01\x01\x03\0\0\0\0\0\0\0\x01\x01\0\0\0b\xFFc".to_vec(alloc)?)?;
-    let mut log = open_found(alloc, main, spare)?;
+    let main: &[u8] = b"SPFLOG01\x01\x02\0\0\0\0\0\0\0\x01\x01\0\0\0a\0";
+    let spare: &[u8] = b"SPFLOG01\x01\x03\0\0\0\0\0\0\0\x01\x01\0\0\0b\xFFc";
+    let mut log = open(alloc, disk_of(alloc, main)?, disk_of(alloc, spare)?)?;
     records_are(&rt, &log, &[b"b"]);
-    assert!(rt; log.is_sound());
-    log.append(b"d")?;
-    let DiskPair { main: _, spare } = log.into_disks();
-    assert_eq!(rt; spare.bytes(), b"SPFLOG01\x01\x03\0\0\0\0\0\0\0\x01\x01\0\0\0b\x01\x01\0\0\0d\0".as_slice());
+    append(&rt, &mut log, b"d")?;
+    bytes_are(
+        &rt,
+        log,
+        main,
+        b"SPFLOG01\x01\x03\0\0\0\0\0\0\0\x01\x01\0\0\0b\x01\x01\0\0\0d\0",
+    );
     Ok(())
 }
 
 #[test]
 fn a_log_is_full_at_its_length(rt: HostRuntime) -> Result<(), Fail> {
     let alloc = rt.alloc();
-    let main = MemDisk::new(alloc, Vec::new(alloc))?;
-    let spare = MemDisk::new(alloc, Vec::new(alloc))?;
-    let Ok(mut log) = Log::create(alloc, DiskPair { main, spare }, 26) else {
-        return Err(Fail::from("not made"));
-    };
-    assert!(rt; log.is_sound());
-    assert_eq!(rt; log.append(b"abcd"), Err(LogFault::Full { bytes: 27 }));
-    assert_eq!(rt; log.append(b"abc"), Ok(()));
+    let mut log = new_log(alloc, 26, 0, None)?;
+    assert_eq!(rt;
+        append(&rt, &mut log, b"abcd"),
+        Err(LogFault::Full { bytes: 27 })
+    );
+    assert_eq!(rt; append(&rt, &mut log, b"abc"), Ok(()));
     Ok(())
 }

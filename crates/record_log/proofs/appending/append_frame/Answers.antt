@@ -10,7 +10,7 @@ pub returns-in_err-write_at-clause-any_moment : goal.returns-in_err-write_at-cla
 returns-in_err-write_at-clause-any_moment g c = after_failed_write c.args.gate c.args.frame.now _ _ c.requires.file c.in_err-write_at.ensures.torn
 
 pub returns-in_err-sync-clause-any_moment : goal.returns-in_err-sync-clause-any_moment
-returns-in_err-sync-clause-any_moment g c = 
+returns-in_err-sync-clause-any_moment g c =
     (let failed = c.in_err-sync.ensures {u = tt} in let wrote = c.in_ok-write_at.ensures {u = tt} in after_write c.args.gate c.args.frame.now _ _ c.requires.file (failed.unchanged ∙ wrote.written))
 
 pub write_at-requires-2-clause-place : goal.write_at-requires-2-clause-place

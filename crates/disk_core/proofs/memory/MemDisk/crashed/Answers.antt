@@ -13,7 +13,7 @@ returns-clause-crash c =
     (state_of c.args.self.now)
     (state_of c.in_ok-disk.disk)
     (
-      c.in_ok-disk.ensures
-      ∙ ap (λ (l : List ℕ). start l) c.in_ok-bytes.ensures
-      ∙ (λ i. start (image_of c.args.image (called (c.deref-2.ensures.value i) (c.deref-3.ensures.value i) (start (c.deref.ensures.value i))).now))
+    c.in_ok-disk.ensures
+    ∙ ap (λ (l : List ℕ). start l) c.in_ok-bytes.ensures
+    ∙ (λ i. start (image_of c.args.image (called (c.deref-2.ensures.value i) (c.deref-3.ensures.value i) (start (c.deref.ensures.value i))).now))
     )
