@@ -1,11 +1,11 @@
 -- What a crash leaves in each step of an append.
-use Rattle.std.proofs.Common.{◌≡◌, ◌≢◌, ◌⊎◌, inl, inr, ⊎_elim, ℕ, suc, ◌+◌, ◌-◌, ◌≤◌, ◌<◌, min, max, List, [], ◌∷◌, ◌++◌, length, get_or, take, drop, refl, sym, ◌∙◌, ap, subst, arith, append_assoc, length-append, length-drop, length-take, take-append-drop}
+use Rattle.std.proofs.Common.{◌≡◌, inl, inr, ⊎_elim, ℕ, suc, ◌+◌, ◌≤◌, ◌<◌, min, List, [], ◌∷◌, ◌++◌, length, get_or, take, drop, refl, sym, ◌∙◌, ap, subst, arith, append_assoc, length-append, length-take, take-append-drop}
 use Rattle.std.specs.Prelude.{Option, Some, None, option_map}
 use Rattle.std.proofs.lemmas.Bool.{cases_eq}
-use Rattle.std.proofs.lemmas.List.{take_at, drop_at, take_all, drop_all, drop_more, append-nil}
-use Rattle.disk_core.specs.DiskModel.{Wrote, Moment, DiskState, Torn, MayLeave, IsSure, LeavesOnly, FailsToWrite, Becomes, patched, changed, at_moment, written, synced}
+use Rattle.std.proofs.lemmas.List.{take_at, drop_at, drop_more}
+use Rattle.disk_core.specs.DiskModel.{Wrote, DiskState, Torn, MayLeave, IsSure, LeavesOnly, FailsToWrite, Becomes, patched, changed, written, synced}
 use Rattle.disk_core.proofs.Moments.{started, goes_on}
-use Rattle.record_log.specs.Crash.{IsShut, IsOpened, IsTorn, Waits}
+use Rattle.record_log.specs.Crash.{IsOpened, IsTorn, Waits}
 
 -- a list is its first n, the next one, and the rest
 pub around : (bytes : List ℕ) (n : ℕ) → n < length bytes → bytes ≡ take n bytes ++ (get_or bytes n 0 ∷ drop (n + 1) bytes)

@@ -1,10 +1,10 @@
 -- What was read of two files, as what they stand for.
-use Rattle.std.proofs.Common.{◌≡◌, ◌≢◌, ◌≤◌, inl, inr, ℕ, zero, suc, ◌+◌, ◌-◌, ◌==◌, nat_le, nat_lt, Bool, true, false, not, ◌&&◌, ◌||◌, cond, List, [], ◌∷◌, ◌++◌, length, take, drop, refl, sym, ◌∙◌, ap, subst, arith, append_assoc, length-append, length-drop, length-take, take-append-drop}
-use Rattle.std.specs.Prelude.{Option, Some, None, bytes_eq, slice_index, if◌then◌else◌}
+use Rattle.std.proofs.Common.{◌≡◌, ◌≤◌, ℕ, ◌+◌, ◌==◌, nat_le, nat_lt, Bool, true, false, not, ◌&&◌, ◌||◌, List, ◌∷◌, ◌++◌, length, take, drop, refl, sym, ◌∙◌, ap, subst, arith, append_assoc, length-take, take-append-drop}
+use Rattle.std.specs.Prelude.{Option, None, bytes_eq, slice_index, if◌then◌else◌}
 use Rattle.byteorder.specs.Endian.{little_number}
 use Rattle.record_log.specs.Format.{mark}
 use Rattle.record_log.specs.Recovery.{head_of, has_mark, is_open, is_current, generation, records_past, records_of, shown_of}
-use Rattle.record_log.specs.Layout.{Reads, size_of, EndsAt}
+use Rattle.record_log.specs.Layout.{EndsAt}
 use Rattle.record_log.specs.Files.{IsHead, IsLog, IsRefused, leads, shown_head}
 use Rattle.record_log.specs.declared.files.Head.{Head}
 use Rattle.record_log.proofs.RecordReads.{past_drop, and_left, le_from}

@@ -1,5 +1,5 @@
 -- A log's fields after a step.
-use Rattle.std.proofs.Common.{◌≡◌, ◌≤◌, ◌<◌, ℕ, ◌+◌, Bool, true, List, [], refl, sym, ◌∙◌, ap, subst, arith}
+use Rattle.std.proofs.Common.{◌≡◌, ◌≤◌, ◌<◌, ℕ, ◌+◌, Bool, List, sym, ◌∙◌, ap, subst, arith}
 use Rattle.std.specs.Prelude.{Option, Vec, vec_capacity}
 use Rattle.std.specs.declared.alloc.Global.{Global}
 use Rattle.disk_core.specs.DiskModel.{DiskState}

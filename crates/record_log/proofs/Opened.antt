@@ -1,10 +1,10 @@
 -- A log that was opened, from what was found in its files.
-use Rattle.std.proofs.Common.{◌≡◌, ℕ, ◌+◌, Bool, true, false, List, [], ◌∷◌, ◌++◌, length, take, refl, sym, ◌∙◌, ap, subst, arith}
+use Rattle.std.proofs.Common.{◌≡◌, ℕ, Bool, true, false, List, [], take, refl, sym, ◌∙◌, subst, arith}
 use Rattle.std.specs.Prelude.{Option, Some, None, option_map}
-use Rattle.disk_core.specs.DiskModel.{DiskState, IsSure, LeavesOnly, Becomes, synced}
+use Rattle.disk_core.specs.DiskModel.{DiskState, IsSure, Becomes, synced}
 use Rattle.record_log.specs.Recovery.{records_of}
 use Rattle.record_log.specs.Files.{IsLog, IsLogIn}
-use Rattle.record_log.specs.LogView.{AnyMoment, IsNew, IsStored, IsStoredIn, LogView, disks_of, ordered_of}
+use Rattle.record_log.specs.LogView.{AnyMoment, IsNew, IsStored, IsStoredIn, ordered_of}
 use Rattle.record_log.specs.declared.files.DiskPair.{DiskPair}
 use Rattle.record_log.specs.Format.{new_file}
 use Rattle.record_log.proofs.RecordReads.{reads_none}

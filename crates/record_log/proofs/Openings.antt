@@ -1,10 +1,10 @@
 -- What a crash leaves while files are opened or made.
-use Rattle.std.proofs.Common.{◌≡◌, ◌⊎◌, ◌≤◌, inl, inr, ⊎_elim, ℕ, zero, suc, ◌+◌, ◌==◌, max, Bool, true, false, ◌&&◌, replicate, List, [], ◌∷◌, ◌++◌, length, take, drop, refl, sym, ◌∙◌, ap, subst, arith, length-append}
+use Rattle.std.proofs.Common.{◌≡◌, ◌⊎◌, ◌≤◌, inl, inr, ⊎_elim, ℕ, zero, suc, ◌+◌, Bool, true, false, ◌&&◌, replicate, List, [], ◌∷◌, ◌++◌, length, drop, refl, sym, ◌∙◌, ap, subst, arith}
 use Rattle.std.specs.Prelude.{Option, Some, None, option_map, if◌then◌else◌}
 use Rattle.std.proofs.lemmas.Bool.{cases_eq}
 use Rattle.std.proofs.lemmas.Bool.Decides.{nat_tests}
 use Rattle.std.proofs.lemmas.List.{append-nil, drop_all}
-use Rattle.disk_core.specs.DiskModel.{Wrote, Moment, DiskState, Torn, MayLeave, IsSure, LeavesOnly, FailsToWrite, Becomes, patched, changed, at_moment, written, synced}
+use Rattle.disk_core.specs.DiskModel.{Wrote, DiskState, MayLeave, LeavesOnly, FailsToWrite, Becomes, patched, changed, written, synced}
 use Rattle.disk_core.proofs.Moments.{started, goes_on}
 use Rattle.record_log.specs.Recovery.{has_mark, is_current, records_past, records_of}
 use Rattle.record_log.specs.Files.{IsEmpty, MaySync}

@@ -1,19 +1,19 @@
 -- What two files stand for after a crash inside an append.
-use Rattle.std.proofs.Common.{◌≡◌, ◌≢◌, ◌⊎◌, ◌≤◌, ◌<◌, inl, inr, ⊎_elim, ℕ, ◌+◌, ◌-◌, ◌^◌, ◌==◌, nat_le, nat_lt, Bool, true, false, not, ◌&&◌, ◌||◌, List, [], ◌∷◌, ◌++◌, length, take, drop, replicate, refl, sym, ◌∙◌, ap, subst, arith, append_assoc, length-append, length-take}
+use Rattle.std.proofs.Common.{◌≡◌, ◌≤◌, inl, inr, ⊎_elim, ℕ, ◌+◌, ◌-◌, ◌==◌, nat_le, nat_lt, Bool, true, false, not, ◌&&◌, ◌||◌, List, [], ◌∷◌, ◌++◌, length, take, drop, replicate, refl, sym, ◌∙◌, ap, subst, arith, append_assoc, length-append}
 use Rattle.std.specs.Prelude.{Option, Some, None, bytes_eq, slice_index, is_some}
 use Rattle.std.proofs.lemmas.Bool.Decides.{nat_tests}
 use Rattle.std.proofs.lemmas.List.{take_at, append-nil}
 use Rattle.std.proofs.lemmas.List.Sums.{sum_by-append}
 use Rattle.byteorder.specs.Endian.{little_number, little_bytes}
 use Rattle.byteorder.specs.Numbers.{little_number-reads_back, length-bytes_low_first}
-use Rattle.disk_core.specs.DiskModel.{Moment, DiskState, IsSure, MayLeave, LeftSince, LeavesOnly, Becomes}
+use Rattle.disk_core.specs.DiskModel.{DiskState, IsSure, MayLeave, LeftSince, LeavesOnly, Becomes}
 use Rattle.disk_core.proofs.Moments.{started}
-use Rattle.record_log.specs.Format.{framed, log_size, mark}
-use Rattle.record_log.specs.Recovery.{head_of, has_mark, is_open, is_current, generation, records_past, records_of}
+use Rattle.record_log.specs.Format.{framed, mark}
+use Rattle.record_log.specs.Recovery.{head_of, is_open, is_current, generation, records_past, records_of}
 use Rattle.record_log.specs.Layout.{Reads, size_of, with_front}
 use Rattle.record_log.specs.Files.{IsLog}
 use Rattle.record_log.specs.Crash.{IsShut, IsOpened, IsTorn, Waits}
-use Rattle.record_log.specs.LogView.{IsStored, CrashLeaves, AnyMoment, LeavesPairs, IsBeforeOrAfter}
+use Rattle.record_log.specs.LogView.{IsStored, CrashLeaves, AnyMoment, IsBeforeOrAfter}
 use Rattle.record_log.proofs.RecordReads.{past_drop, shut_none, reads_both, reads_one}
 
 le_is : (a b : ℕ) → a ≤ b → nat_le a b ≡ true

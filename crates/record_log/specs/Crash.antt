@@ -1,5 +1,5 @@
 -- What a crash inside an append may leave of the file that is written.
-use Rattle.std.specs.Prelude.{◌≡◌, ◌≢◌, ◌⊎◌, ℕ, List, [], ◌∷◌, ◌++◌, length}
+use Rattle.std.specs.Prelude.{◌≡◌, ◌≢◌, ◌⊎◌, ℕ, List, ◌∷◌, ◌++◌, length}
 use Rattle.disk_core.specs.DiskModel.{DiskState, IsSure}
 
 -- Behind this front stands a gate that isn't open.

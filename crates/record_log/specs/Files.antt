@@ -1,7 +1,7 @@
 -- The two files of a log that was opened, and what an opening may do to them.
-use Rattle.std.specs.Prelude.{bytes_eq, if◌then◌else◌, not, ◌&&◌, ◌||◌, ◌==◌, nat_le, nat_lt, drop, slice_index, ◌≡◌, ◌≢◌, ◌⊎◌, ◌≤◌, ℕ, ◌+◌, Bool, true, false, List, [], ◌∷◌, ◌++◌, length, take, Option, Some, None, Result}
+use Rattle.std.specs.Prelude.{bytes_eq, if◌then◌else◌, not, ◌&&◌, ◌||◌, ◌==◌, nat_le, nat_lt, drop, slice_index, ◌≡◌, ◌⊎◌, ◌≤◌, ℕ, ◌+◌, Bool, true, false, List, [], ◌++◌, length, take, None}
 use Rattle.disk_core.specs.Counts.{HasRisen}
-use Rattle.disk_core.specs.DiskModel.{DiskState, IsSure, synced, Becomes}
+use Rattle.disk_core.specs.DiskModel.{DiskState, IsSure, synced}
 use Rattle.byteorder.specs.Endian.{little_number}
 use Rattle.record_log.specs.Recovery.{head_of, has_mark, is_current, records_of, shown_of}
 use Rattle.record_log.specs.Format.{mark}

@@ -1,5 +1,5 @@
 -- How the bytes behind a file's head stand for records.
-use Rattle.std.specs.Prelude.{◌≡◌, ◌≢◌, ℕ, ◌+◌, List, [], ◌∷◌, ◌++◌, length, Option, option_map, sum_by}
+use Rattle.std.specs.Prelude.{◌≡◌, ◌≢◌, ℕ, ◌+◌, List, ◌∷◌, ◌++◌, length, Option, option_map, sum_by}
 use Rattle.record_log.specs.Recovery.{records_past}
 
 -- These records, and then those that are read further on.

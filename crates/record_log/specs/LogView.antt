@@ -1,13 +1,9 @@
 -- A log as contracts see it, and what its calls keep.
-use Rattle.std.specs.Prelude.{◌≡◌, ◌≢◌, ◌⊎◌, ◌≤◌, ◌<◌, ℕ, ◌+◌, ◌-◌, ◌^◌, Bool, true, false, if◌then◌else◌, List, [], ◌∷◌, ◌++◌, length, Option, Some, None, Vec, vec_capacity, refl}
+use Rattle.std.specs.Prelude.{◌≡◌, ◌⊎◌, ◌≤◌, ◌<◌, ℕ, ◌+◌, Bool, true, false, if◌then◌else◌, List, [], ◌∷◌, ◌++◌, Option, Some, None, refl}
 use Rattle.std.specs.Coded.{Coded, code_by, coded×, coded_ℕ, coded_bool, coded_list}
-use Rattle.std.specs.declared.alloc.Global.{Global}
 use Rattle.disk_core.specs.DiskModel.{Moment, DiskState, IsSure, MayLeave, LeftSince, LeavesOnly, Becomes}
 use Rattle.record_log.specs.Recovery.{records_of}
-use Rattle.record_log.specs.Layout.{size_of}
 use Rattle.record_log.specs.Files.{IsLog}
-use Rattle.record_log.specs.RecordLists.{list_of, slots_of}
-use Rattle.record_log.specs.declared.records.Records.{Records}
 use Rattle.record_log.specs.declared.files.DiskPair.{DiskPair}
 
 -- A log: the disk of its current file and the other one, whether the current one is the spare, the records, the length that the log may have, whether an append may come, and how many bytes, less one, the next append may have that takes no memory (none, where it is 0).

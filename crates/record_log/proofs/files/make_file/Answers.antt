@@ -1,5 +1,5 @@
-use Rattle.std.proofs.Common.{◌≡◌, ℕ, length, refl, ◌∙◌, ap}
-use Rattle.record_log.proofs.Openings.{not_made, failed_made, wrote_made, synced_made}
+use Rattle.std.proofs.Common.{length, ◌∙◌, ap}
+use Rattle.record_log.proofs.Openings.{failed_made, wrote_made, synced_made}
 use Rattle.record_log.proofs.files.make_file.Goals as goal
 
 pub returns-in_err-write_at-clause-any_moment : goal.returns-in_err-write_at-clause-any_moment

@@ -1,12 +1,10 @@
-use Rattle.std.proofs.Common.{◌≡◌, List, ℕ, Bool, true, false, take, refl, sym, ◌∙◌, ap, rules}
-use Rattle.std.specs.Prelude.{IsErrOf, Some, Result, Err}
-use Rattle.disk_core.specs.DiskModel.{DiskState}
-use Rattle.record_log.specs.Recovery.{has_mark, is_current}
+use Rattle.std.proofs.Common.{◌≡◌, List, ℕ, sym, ◌∙◌, ap}
+use Rattle.std.specs.Prelude.{IsErrOf, Err}
 use Rattle.record_log.specs.RecordLists.{list_of}
 use Rattle.record_log.specs.declared.fault.LogFault.{LogFault}
 use Rattle.record_log.specs.declared.fault.LogFault.TheVariants.{NotALog}
 use Rattle.record_log.specs.declared.files.Found.{Found}
-use Rattle.record_log.proofs.FilesFound.{mark_is, leads_is, is_log, none_unmarked, none_current, none_main, none_spare, refused}
+use Rattle.record_log.proofs.FilesFound.{mark_is, leads_is, is_log, none_current, none_main, none_spare, refused}
 use Rattle.record_log.proofs.files.read_files.Goals as goal
 
 same_found : (f g : List ℕ) (m n : ℕ) → NotALog f m ≡ NotALog g n → f ≡ g

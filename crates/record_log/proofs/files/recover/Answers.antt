@@ -1,6 +1,6 @@
-use Rattle.std.proofs.Common.{List, ℕ, ◌≡◌, ◌∙◌, ap}
+use Rattle.std.proofs.Common.{◌∙◌, ap}
 use Rattle.std.specs.Prelude.{Result, Ok, Err, IfOk, option_map}
-use Rattle.disk_core.specs.DiskModel.{DiskState, synced}
+use Rattle.disk_core.specs.DiskModel.{synced}
 use Rattle.record_log.proofs.files.recover.Goals as goal
 
 map_ok : {T E : Type 0} (r : Result T E) (P Q : T → Type 0) → ((x : T) → P x → Q x) → IfOk r P → IfOk r Q

@@ -1,4 +1,4 @@
-use Rattle.std.proofs.Common.{refl, arith, ◌∙◌, ap}
+use Rattle.std.proofs.Common.{arith}
 use Rattle.record_log.specs.RecordLists.{list_of}
 use Rattle.record_log.proofs.Opened.{stored_pair}
 use Rattle.record_log.proofs.Pairs.{stored_leaves}

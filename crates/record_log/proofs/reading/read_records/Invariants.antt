@@ -1,4 +1,4 @@
-use Rattle.std.proofs.Common.{◌≡◌, List, ℕ, ◌++◌, ◌+◌, length}
+use Rattle.std.proofs.Common.{◌≡◌, List, ℕ, ◌++◌, length}
 use Rattle.record_log.specs.Layout.{Reads, size_of}
 use Rattle.record_log.specs.RecordLists.{list_of}
 use Rattle.record_log.proofs.reading.read_records.Given as goal

@@ -1,5 +1,4 @@
-use Rattle.std.proofs.Common.{◌≡◌, ℕ, Bool, true, List, refl, sym, ◌∙◌, ap, subst, arith, rules}
-use Rattle.record_log.specs.LogView.{LogView, AnyMoment, IsBeforeOrAfter}
+use Rattle.std.proofs.Common.{◌≡◌, true, sym, ◌∙◌, ap}
 use Rattle.record_log.specs.RecordLists.{list_of}
 use Rattle.record_log.proofs.Pairs.{any_moment_same, any_as}
 use Rattle.record_log.proofs.log.Log.append.Goals as goal

@@ -1,7 +1,5 @@
-use Rattle.std.proofs.Common.{◌≡◌, List, ℕ, refl, sym, subst, ap}
-use Rattle.record_log.specs.LogView.{AnyMoment, IsNew, IsStored, disks_of}
-use Rattle.record_log.specs.RecordLists.{list_of}
-use Rattle.record_log.specs.declared.files.DiskPair.{DiskPair}
+use Rattle.std.proofs.Common.{List, ℕ, refl, sym, subst}
+use Rattle.record_log.specs.LogView.{AnyMoment, IsNew, IsStored}
 use Rattle.record_log.proofs.Openings.{not_made}
 use Rattle.record_log.proofs.Opened.{new_moments}
 use Rattle.record_log.proofs.log.Log.create.Goals as goal

@@ -1,4 +1,4 @@
-use Rattle.std.proofs.Common.{refl, arith, ◌+◌, length}
+use Rattle.std.proofs.Common.{refl, arith}
 use Rattle.record_log.proofs.KeptFields.{kept_more, kept_ready}
 use Rattle.record_log.proofs.log.Log.reserve.Goals as goal
 

@@ -1,4 +1,4 @@
-use Rattle.std.proofs.Common.{◌≡◌, ℕ, refl, arith, sym, ◌∙◌, ap, subst}
+use Rattle.std.proofs.Common.{◌≡◌, arith, sym, ◌∙◌, ap, subst}
 use Rattle.record_log.specs.RecordLists.{list_of}
 use Rattle.record_log.specs.LogView.{IsStoredIn, disk_pair, pair_of}
 use Rattle.record_log.proofs.Opened.{stored_pair}

@@ -1,11 +1,11 @@
-use Rattle.std.proofs.Common.{◌≡◌, ◌<◌, ◌^◌, ℕ, ◌+◌, Bool, true, List, [], ◌∷◌, ◌++◌, length, take, refl, sym, ◌∙◌, ap, subst, arith}
+use Rattle.std.proofs.Common.{◌≡◌, ◌<◌, ◌^◌, ℕ, ◌+◌, true, List, [], ◌∷◌, ◌++◌, length, take, refl, sym, ◌∙◌, ap, subst, arith}
 use Rattle.std.specs.Prelude.{Option, Vec}
 use Rattle.std.specs.declared.alloc.Global.{Global}
 use Rattle.disk_core.specs.DiskModel.{DiskState, IsSure, LeavesOnly, Becomes}
 use Rattle.record_log.specs.Crash.{IsTorn, IsOpened}
 use Rattle.record_log.specs.Format.{framed, log_size}
 use Rattle.record_log.specs.Layout.{size_of}
-use Rattle.record_log.specs.LogView.{LogView, IsStored, AnyMoment, IsBeforeOrAfter}
+use Rattle.record_log.specs.LogView.{IsStored, AnyMoment, IsBeforeOrAfter}
 use Rattle.record_log.specs.RecordLists.{list_of}
 use Rattle.record_log.proofs.Pairs.{waits, any_moment, stored_more, stored_leaves, size_more}
 use Rattle.record_log.proofs.log.Log.write_reserved.Goals as goal
