@@ -1,0 +1,11 @@
+//! The messages of the MySQL client/server protocol, as values.
+//!
+//! A server answers each command with one [`Reply`]: an OK, an ERR, a result of rows, or the request to log in by another plugin.
+//! The names are those of the protocol's public documentation ("MySQL Client/Server Protocol", MySQL Source Code
+//! Documentation).
+#![tactic(auto)]
+
+mod reply;
+
+pub use list_types::Text;
+pub use reply::{Cell, CellRow, CellRows, Column, Columns, Reply};

@@ -1,0 +1,26 @@
+//! Where bytes come from and go to.
+//!
+//! [`Source`] and [`Sink`] are what a program reads and writes, [`Files`] where it finds its files. Each is a trait whose
+//! meaning is a relation between two states ("from this state to that one these bytes were given"), with a count of
+//! faults that never falls: a call answers that it failed only where the count rose. Over memory the relations are equations on
+//! lists of bytes; an adapter over the real outside, which can't know what a file holds, relates all, and keeps its count.
+//!
+//! [`MemSource`], [`MemSink`] and [`MemFiles`] are the forms in memory. Each follows a script of short and failing calls.
+#![tactic(auto)]
+
+mod files;
+mod memory;
+mod sink;
+mod source;
+
+pub use files::{Files, FilesFault};
+pub use list_types::Bytes;
+pub use memory::{MemFile, MemFiles, MemSink, MemSource, ScriptedCall};
+pub use sink::{Sink, write_all, write_three};
+pub use source::{Failed, Source};
+
+/// The exit status of a program.
+#[derive(Clone, Copy, Debug, PartialEq, Eq)]
+pub struct Status {
+    pub code: u8,
+}
