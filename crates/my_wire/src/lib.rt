@@ -13,7 +13,7 @@ mod memory;
 mod sink;
 mod source;
 
-pub use files::{Files, FilesFault};
+pub use files::{Files, FilesFault, LARGEST_FILE};
 pub use list_types::Bytes;
 pub use memory::{MemFile, MemFiles, MemSink, MemSource, ScriptedCall};
 pub use sink::{Sink, write_all, write_three};
