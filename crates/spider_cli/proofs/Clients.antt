@@ -1,4 +1,4 @@
-use Rattle.std.proofs.Common.{◌≡◌, ◌≢◌, ◌⊎◌, inl, inr, ℕ, ◌+◌, ◌-◌, ◌^◌, ◌<◌, ◌≤◌, ◌++◌, ℤ, List, [], ◌∷◌, Bool, true, false, cond, Option, Some, None, option_to_list, length, map, refl, sym, ap, ◌∙◌, subst, arith}
+use Rattle.std.proofs.Common.{◌≡◌, ◌⊎◌, inl, inr, ℕ, ◌+◌, ◌-◌, ◌^◌, ◌<◌, ◌≤◌, ◌++◌, ℤ, List, [], ◌∷◌, true, false, cond, Option, Some, None, option_to_list, length, refl, sym, ap, ◌∙◌, subst, arith}
 use Rattle.std.specs.Prelude.{◌==◌, ◌&&◌}
 use Rattle.std.specs.List.{flat_map, AllByRecursion}
 use Rattle.std.specs.Ordering.{int_cmp}
@@ -12,11 +12,11 @@ use Rattle.sql_text.specs.declared.link.LinkAnswer.TheVariants.{Rows}
 use Rattle.sql_text.specs.Reading.{statement_of}
 use Rattle.my_messages.specs.declared.reply.Reply.{Reply}
 use Rattle.plain_tables.specs.Table.{Table, rows_of, with_key, inserted}
-use Rattle.plain_tables.specs.Replies.{ok_reply, syntax_reply, duplicate_reply, full_reply, rows_reply}
+use Rattle.plain_tables.specs.Replies.{ok_reply, duplicate_reply, full_reply, rows_reply}
 use Rattle.plain_tables.specs.Exec.{new_row, executed, exec}
-use Rattle.plain_tables.specs.Serial.{Entry, Plain, Follows}
+use Rattle.plain_tables.specs.Serial.{Plain, Follows}
 use Rattle.spider_cli.specs.declared.front_core.TxNo.{TxNo}
-use Rattle.spider_cli.specs.declared.front_core.Work.TheVariants.{Idle, Checking, Writing, Reading}
+use Rattle.spider_cli.specs.declared.front_core.Work.TheVariants.{Idle, Checking}
 use Rattle.spider_cli.specs.declared.front_core.FrontState.{FrontState}
 use Rattle.spider_cli.specs.declared.front_core.Output.{Output}
 use Rattle.spider_cli.specs.declared.front_core.Output.TheVariants.{Send, Decided, Acked, Answer}

@@ -1,4 +1,4 @@
-use Rattle.std.proofs.Common.{◌≡◌, ℕ, List, [], ◌++◌, Option, Some, refl, sym, subst}
+use Rattle.std.proofs.Common.{◌≡◌, ℕ, List, [], Option, refl, sym, subst}
 use Rattle.spider_cli.specs.declared.outcome.Object.TheVariants as object
 use Rattle.spider_cli.specs.declared.outcome.Outcome.{Outcome}
 use Rattle.spider_cli.specs.declared.outcome.Outcome.TheVariants as outcome

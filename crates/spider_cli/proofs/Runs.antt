@@ -1,25 +1,22 @@
-use Rattle.std.proofs.Common.{◌≡◌, ◌⊎◌, inl, inr, ℕ, ◌+◌, ◌-◌, ◌^◌, ◌<◌, ◌≤◌, ◌++◌, List, [], ◌∷◌, Bool, true, false, cond, Option, Some, None, option_to_list, map, length, refl, sym, ap, ◌∙◌, subst, append_assoc, arith, Ok, Result}
-use Rattle.std.specs.Prelude.{◌||◌, nat_lt, not}
+use Rattle.std.proofs.Common.{◌≡◌, inl, inr, ℕ, ◌+◌, ◌<◌, ◌≤◌, ◌++◌, List, [], ◌∷◌, Bool, true, false, cond, None, option_to_list, map, refl, sym, ap, ◌∙◌, subst, arith}
+use Rattle.std.specs.Prelude.{◌||◌, nat_lt}
 use Rattle.std.specs.List.{flat_map, AllByRecursion}
-use Rattle.std.specs.Str.{is_utf8}
 use Rattle.std.proofs.lemmas.Grind.{flat_map-append}
 use Rattle.std.proofs.lemmas.List.{append-nil}
 use Rattle.std.proofs.lemmas.Bool.Decides.{nat_tests}
 use Rattle.sql_text.specs.Reading.{statement_of}
-use Rattle.my_messages.specs.declared.reply.Reply.{Reply}
 use Rattle.plain_tables.specs.Table.{Table}
-use Rattle.plain_tables.specs.Exec.{executed, exec}
-use Rattle.plain_tables.specs.Solo.{Solo, new_solo, solo_answers, solo_after}
+use Rattle.plain_tables.specs.Exec.{exec}
+use Rattle.plain_tables.specs.Solo.{Solo, solo_answers, solo_after}
 use Rattle.plain_tables.specs.Serial as serial
 use Rattle.plain_tables.specs.Serial.{Entry, Transaction, Follows}
-use Rattle.spider_cli.specs.declared.schedule.LineRule.{LineRule}
 use Rattle.spider_cli.specs.declared.schedule.LineRule.TheVariants.{UnknownWord}
 use Rattle.spider_cli.specs.declared.front_core.TxNo.{TxNo}
 use Rattle.spider_cli.specs.declared.front_core.Output.{Output}
 use Rattle.spider_cli.specs.World.{World, client}
 use Rattle.spider_cli.specs.Schedule.{Line, Passed, Client, Broken, words_of, line_of, lines_of}
 use Rattle.spider_cli.specs.Run.{Played, Run, after_line, line_does, line_step, by_step, run_of, run_of_schedule}
-use Rattle.spider_cli.specs.History.{sent_by, statement_in, statements_of, answers_in, answers_of, decided_in, decisions_of, acked_in, acknowledged_in, entries_by, entries_in, entries_of, entries_with, transaction_of, history_of, IsPlain}
+use Rattle.spider_cli.specs.History.{sent_by, statements_of, answers_of, decided_in, decisions_of, acknowledged_in, entries_by, entries_in, entries_of, entries_with, transaction_of, IsPlain}
 use Rattle.spider_cli.proofs.Keys.{IsRising}
 use Rattle.spider_cli.proofs.Clients.{resting, DoesPlain, client_plain}
 

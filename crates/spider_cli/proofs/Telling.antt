@@ -1,4 +1,4 @@
-use Rattle.std.proofs.Common.{◌≡◌, ℕ, ◌+◌, ◌<◌, ◌≤◌, ◌++◌, List, [], ◌∷◌, Some, None, Bool, true, false, cond, length, Result, Ok, Err, OnOk, get_or, drop, add-one, drop-cons, refl, sym, ap, ◌∙◌, append_assoc, arith}
+use Rattle.std.proofs.Common.{◌≡◌, Option, subst, ℕ, ◌+◌, ◌<◌, ◌≤◌, ◌++◌, List, [], ◌∷◌, Some, None, Bool, true, false, cond, length, Result, Ok, Err, OnOk, refl, sym, ap, ◌∙◌, append_assoc, arith}
 use Rattle.std.specs.Prelude.{◌==◌, ◌||◌, nat_lt}
 use Rattle.std.proofs.lemmas.List.{append-nil, length-append}
 use Rattle.std.proofs.lemmas.Bool.{false≢true}
@@ -6,7 +6,6 @@ use Rattle.std.specs.Result.{IsErrAnd}
 use Rattle.spider_cli.specs.Playing.{NoEnd, run_from, told_by}
 use Rattle.spider_cli.specs.Shown.{shown}
 use Rattle.spider_cli.specs.declared.world_play.Player.{Player}
-use Rattle.std.proofs.lemmas.Grind.{flat_map-append}
 use Rattle.std.proofs.lemmas.Bool.Decides.{nat_tests}
 use Rattle.spider_cli.specs.declared.schedule.LineRule.{LineRule}
 use Rattle.spider_cli.specs.declared.schedule.LineRule.TheVariants.{UnknownWord}
@@ -14,8 +13,8 @@ use Rattle.spider_cli.specs.declared.front_core.Output.{Output}
 use Rattle.spider_cli.specs.World.{World, new_world}
 use Rattle.spider_cli.specs.Transcript.{outputs_text, end_text}
 use Rattle.spider_cli.specs.Spoken.{spoken}
-use Rattle.spider_cli.specs.Schedule.{Line, Passed, Client, Broken, line_of, onto_first, lines_of}
-use Rattle.spider_cli.specs.Run.{Played, Run, after_line, line_does, line_step, spoken_onto, by_step, played_text, run_of, Told, told, end_of, with_front, transcript}
+use Rattle.spider_cli.specs.Schedule.{Line, Passed, Client, Broken, line_of, onto_first, onto_line, first_line, lines_of}
+use Rattle.spider_cli.specs.Run.{Run, after_line, line_does, line_step, spoken_onto, by_step, played_text, run_of, Told, told, end_of, with_front, transcript}
 
 -- WHAT ONE LINE TELLS
 
@@ -124,22 +123,62 @@ unfolding lines_of
 begins_line b [] rest h = let k = begins_by b (lines_of rest) in record { more = k.0; others = k.1; are = rw h.0 k.2 }
 begins_line b (c ∷ line) rest h = let k = begins_line c line rest h.1 in record { more = k.more; others = k.others; are = rw h.0 (ap (onto_first b) k.are) }
 
-pub NoEnd-push : (line : List ℕ) (b : ℕ) → NoEnd line → (b == 10) ≡ false → NoEnd (line ++ (b ∷ []))
-NoEnd-push [] b h e = (e, tt)
-NoEnd-push (c ∷ line) b h e = (h.0, NoEnd-push line b h.1 e)
+pub NoEnd-append : (xs ys : List ℕ) → NoEnd xs → NoEnd ys → NoEnd (xs ++ ys)
+NoEnd-append [] ys h k = k
+NoEnd-append (x ∷ xs) ys h k = (h.0, NoEnd-append xs ys h.1 k)
 
-long_begins : (line : List ℕ) (b : ℕ) (rest : List ℕ) → NoEnd line → (b == 10) ≡ false → Begins (line ++ (b ∷ [])) ((line ++ (b ∷ [])) ++ rest)
-long_begins [] b rest h e = begins_line b [] rest (e, tt)
-long_begins (c ∷ line) b rest h e = begins_line c (line ++ (b ∷ [])) rest (h.0, NoEnd-push line b h.1 e)
+begins : (line rest : List ℕ) → NoEnd line → 0 < length line → Begins line (line ++ rest)
+begins [] rest h l = absurd (omega arith)
+begins (b ∷ line) rest h l = begins_line b line rest h
 
 -- a line that is longer than allowed, however it goes on
-pub long_told : (w : World) (n : ℕ) (line rest text : List ℕ) (b : ℕ) → NoEnd line → (b == 10) ≡ false → 65536 ≤ length line
-    → record { text = text; refusal = Some (n + 1, UnknownWord) } ≡ with_front text (told (run_of w n (lines_of (line ++ (b ∷ rest)))))
-long_told w n line rest text b h e l =
-    let k = long_begins line b rest h e in
-    let length_is : 65536 < length ((line ++ (b ∷ [])) ++ k.more) = simp length-append (omega arith) in
-    broken_told w n ((line ++ (b ∷ [])) ++ k.more) text UnknownWord k.others (too_long (n + 1) w ((line ++ (b ∷ [])) ++ k.more) length_is)
-    ∙ ap (λ ls. with_front text (told (run_of w n ls))) (sym k.are ∙ ap lines_of (append_assoc line (b ∷ []) rest))
+pub long_told : (w : World) (n : ℕ) (line bytes rest text : List ℕ) → NoEnd (line ++ bytes) → 65536 < length (line ++ bytes)
+    → record { text = text; refusal = Some (n + 1, UnknownWord) } ≡ with_front text (told (run_of w n (lines_of (line ++ (bytes ++ rest)))))
+long_told w n line bytes rest text h l =
+    let k = begins (line ++ bytes) rest h (omega arith) in
+    let longer : 65536 < length ((line ++ bytes) ++ k.more) = (let m = length-append (line ++ bytes) k.more in omega arith) in
+    broken_told w n ((line ++ bytes) ++ k.more) text UnknownWord k.others (too_long (n + 1) w ((line ++ bytes) ++ k.more) longer)
+    ∙ ap (λ ls. with_front text (told (run_of w n ls))) (sym k.are ∙ ap lines_of (append_assoc line bytes rest))
+
+-- THE FIRST LINE OF A PIECE
+
+-- a line that was cut out of bytes
+pub record Cut (bytes line more : List ℕ) : Type 0 where
+  pub no_end : NoEnd line
+  pub are : bytes ≡ line ++ (10 ∷ more)
+
+same_cut : (a b : List ℕ × List ℕ) → Some a ≡ Some b → a ≡ b
+same_cut a b e = cc
+
+cut_first : (b : ℕ) (bytes : List ℕ) (t : Bool) (o : Option (List ℕ × List ℕ)) (line more : List ℕ) → (b == 10) ≡ t → ((l m : List ℕ) → o ≡ Some (l, m) → Cut bytes l m)
+    → cond t (Some ([], bytes)) (onto_line (b ∷ []) o) ≡ Some (line, more) → Cut (b ∷ bytes) line more
+cut_first b bytes true o line more e f h =
+    let both = same_cut ([], bytes) (line, more) h in
+    let none : [] ≡ line = ap (λ (p : List ℕ × List ℕ). p.0) both in
+    let all : bytes ≡ more = ap (λ (p : List ℕ × List ℕ). p.1) both in
+    let end : b ≡ 10 = grind (arith, nat_tests) in
+    record { no_end = subst NoEnd none tt; are = ap (λ x. x ∷ bytes) end ∙ ap (λ x. 10 ∷ x) all ∙ ap (λ x. x ++ (10 ∷ more)) none }
+cut_first b bytes false None line more e f h = absurd (cc)
+cut_first b bytes false (Some cut) line more e f h =
+    let c = f cut.0 cut.1 refl in
+    let both = same_cut (b ∷ cut.0, cut.1) (line, more) h in
+    let l : b ∷ cut.0 ≡ line = ap (λ (p : List ℕ × List ℕ). p.0) both in
+    let m : cut.1 ≡ more = ap (λ (p : List ℕ × List ℕ). p.1) both in
+    record { no_end = subst NoEnd l (e, c.no_end); are = ap (λ x. b ∷ x) c.are ∙ ap (λ x. b ∷ (cut.0 ++ (10 ∷ x))) m ∙ ap (λ x. x ++ (10 ∷ more)) l }
+
+pub cut : (bytes line more : List ℕ) → first_line bytes ≡ Some (line, more) → Cut bytes line more
+cut [] line more h = absurd (cc)
+cut (b ∷ bytes) line more h = cut_first b bytes (b == 10) (first_line bytes) line more refl (λ l m e. cut bytes l m e) h
+
+uncut_first : (b : ℕ) (bytes : List ℕ) (t : Bool) (o : Option (List ℕ × List ℕ)) → (b == 10) ≡ t → (o ≡ None → NoEnd bytes)
+    → cond t (Some ([], bytes)) (onto_line (b ∷ []) o) ≡ None → NoEnd (b ∷ bytes)
+uncut_first b bytes true o e f h = absurd (cc)
+uncut_first b bytes false None e f h = (e, f refl)
+uncut_first b bytes false (Some cut) e f h = absurd (cc)
+
+pub uncut : (bytes : List ℕ) → first_line bytes ≡ None → NoEnd bytes
+uncut [] h = tt
+uncut (b ∷ bytes) h = uncut_first b bytes (b == 10) (first_line bytes) refl (uncut bytes) h
 
 -- PLAYERS
 
@@ -147,34 +186,41 @@ pub both_ok : {T E P Q R : Type 0} (r : Result T E) → OnOk r P → OnOk r Q �
 both_ok (Ok x) p q f = f p q
 both_ok (Err e) p q f = tt
 
-pub ended_told : (p q : Player) (text all : List ℕ) (byte : ℕ) → byte ≡ 10 → NoEnd p.line.items → q.line.items ≡ []
+-- a line is ended: p holds it, q is after it
+pub ended_told : (p q : Player) (text all : List ℕ) → NoEnd p.line.items → q.line.items ≡ []
     → ((lines : List (List ℕ)) → with_front all (told (run_from q lines)) ≡ with_front text (told (run_from p (p.line.items ∷ lines))))
-    → (rest : List ℕ) → with_front all (told_by q rest) ≡ with_front text (told_by p (byte ∷ rest))
+    → (rest : List ℕ) → with_front all (told_by q rest) ≡ with_front text (told_by p (10 ∷ rest))
 unfolding told_by
-ended_told p q text all byte b n e h rest =
+ended_told p q text all n e h rest =
     ap (λ l. with_front all (told (run_from q (lines_of (l ++ rest))))) e ∙ h (lines_of rest)
-    ∙ ap (λ ls. with_front text (told (run_from p ls))) (sym (ap (λ x. lines_of (p.line.items ++ (x ∷ rest))) b ∙ lines_of-ended p.line.items rest n))
+    ∙ ap (λ ls. with_front text (told (run_from p ls))) (sym (lines_of-ended p.line.items rest n))
 
-pub ended_refused : (p : Player) (text : List ℕ) (byte : ℕ) (t : Told) → byte ≡ 10 → NoEnd p.line.items
+pub ended_refused : (p : Player) (text : List ℕ) (t : Told) → NoEnd p.line.items
     → ((lines : List (List ℕ)) → t ≡ with_front text (told (run_from p (p.line.items ∷ lines))))
-    → (rest : List ℕ) → t ≡ with_front text (told_by p (byte ∷ rest))
+    → (rest : List ℕ) → t ≡ with_front text (told_by p (10 ∷ rest))
 unfolding told_by
-ended_refused p text byte t b n h rest =
-    h (lines_of rest) ∙ ap (λ ls. with_front text (told (run_from p ls))) (sym (ap (λ x. lines_of (p.line.items ++ (x ∷ rest))) b ∙ lines_of-ended p.line.items rest n))
+ended_refused p text t n h rest =
+    h (lines_of rest) ∙ ap (λ ls. with_front text (told (run_from p ls))) (sym (lines_of-ended p.line.items rest n))
 
-pub grown_told : (p q : Player) (text : List ℕ) (byte : ℕ) → q.line.items ≡ p.line.items ++ (byte ∷ []) → shown q.world ≡ shown p.world → q.number ≡ p.number
-    → (rest : List ℕ) → with_front text (told_by q rest) ≡ with_front text (told_by p (byte ∷ rest))
+pub grown_told : (p q : Player) (text bytes : List ℕ) → q.line.items ≡ p.line.items ++ bytes → shown q.world ≡ shown p.world → q.number ≡ p.number
+    → (rest : List ℕ) → with_front text (told_by q rest) ≡ with_front text (told_by p (bytes ++ rest))
 unfolding told_by
-grown_told p q text byte l w n rest =
+grown_told p q text bytes l w n rest =
     ap (λ bs. with_front text (told (run_of (shown q.world) q.number (lines_of (bs ++ rest))))) l
-    ∙ ap (λ bs. with_front text (told (run_of (shown q.world) q.number (lines_of bs)))) (append_assoc p.line.items (byte ∷ []) rest)
-    ∙ ap (λ v. with_front text (told (run_of v q.number (lines_of (p.line.items ++ (byte ∷ rest)))))) w
-    ∙ ap (λ k. with_front text (told (run_of (shown p.world) k (lines_of (p.line.items ++ (byte ∷ rest)))))) n
+    ∙ ap (λ bs. with_front text (told (run_of (shown q.world) q.number (lines_of bs)))) (append_assoc p.line.items bytes rest)
+    ∙ ap (λ v. with_front text (told (run_of v q.number (lines_of (p.line.items ++ (bytes ++ rest)))))) w
+    ∙ ap (λ k. with_front text (told (run_of (shown p.world) k (lines_of (p.line.items ++ (bytes ++ rest)))))) n
 
-pub long_refused : (p : Player) (text : List ℕ) (byte : ℕ) → NoEnd p.line.items → (byte == 10) ≡ false → 65536 ≤ length p.line.items
-    → (rest : List ℕ) → record { text = text; refusal = Some (p.number + 1, UnknownWord) } ≡ with_front text (told_by p (byte ∷ rest))
+pub long_refused : (p : Player) (text bytes : List ℕ) → NoEnd p.line.items → NoEnd bytes → 65536 < length (p.line.items ++ bytes)
+    → (rest : List ℕ) → record { text = text; refusal = Some (p.number + 1, UnknownWord) } ≡ with_front text (told_by p (bytes ++ rest))
 unfolding told_by
-long_refused p text byte n e l rest = long_told (shown p.world) p.number p.line.items rest text byte n e l
+long_refused p text bytes n e l rest = long_told (shown p.world) p.number p.line.items bytes rest text (NoEnd-append p.line.items bytes n e) l
+
+-- a line that was cut out is taken, and then what is left
+pub cut_told : (p : Player) (text : List ℕ) (t all : Told) (left line more rest : List ℕ) → Cut left line more
+    → t ≡ with_front text (told_by p (line ++ (10 ∷ (more ++ rest)))) → with_front text (told_by p (left ++ rest)) ≡ all → t ≡ all
+cut_told p text t all left line more rest c h k =
+    h ∙ ap (λ bs. with_front text (told_by p bs)) (sym (append_assoc line (10 ∷ more) rest)) ∙ ap (λ bs. with_front text (told_by p (bs ++ rest))) (sym c.are) ∙ k
 
 pub fresh_told : (p : Player) → shown p.world ≡ new_world → p.number ≡ 0 → p.line.items ≡ [] → (rest : List ℕ) → told_by p rest ≡ transcript rest
 unfolding told_by transcript
@@ -202,11 +248,6 @@ pub none_told : (p : Player) (text : List ℕ) (t : Told) → p.line.items ≡ [
 unfolding told_by lines_of
 none_told p text t e h = h ∙ sym (ap (λ bs. with_front text (told (run_from p (lines_of (bs ++ []))))) e)
 
-drop_more : (xs : List ℕ) (i : ℕ) → i < length xs → drop i xs ≡ get_or xs i 0 ∷ drop (i + 1) xs
-drop_more xs i l = rw (add-one, drop-cons xs i 0) refl
-
-pub at_byte : (p : Player) (text : List ℕ) (t : Told) (all : Told) (piece rest : List ℕ) (i byte : ℕ) → i < length piece → byte ≡ get_or piece i 0
-    → t ≡ with_front text (told_by p (byte ∷ (drop (i + 1) piece ++ rest))) → with_front text (told_by p (drop i piece ++ rest)) ≡ all → t ≡ all
-at_byte p text t all piece rest i byte l b h k =
-    h ∙ ap (λ x. with_front text (told_by p (x ∷ (drop (i + 1) piece ++ rest)))) b
-    ∙ ap (λ bs. with_front text (told_by p (bs ++ rest))) (sym (drop_more piece i l)) ∙ k
+-- a line that was cut out leaves less
+pub cut_shorter : (left line more : List ℕ) → Cut left line more → length more < length left
+cut_shorter left line more c = let e = ap length c.are in let k = length-append line (10 ∷ more) in omega arith

@@ -6,7 +6,7 @@ ghost use Rattle.spider_cli.specs.Showing.{Shows};
 ghost use Rattle.spider_cli.specs.declared.catalog.ConfFault.{ConfFault};
 
 use crate::catalog::{ConfFault, is_built};
-use crate::schedule::{LONGEST_LINE, LineRule};
+use crate::schedule::{LONGEST_LINE, LineRule, cut_line};
 use crate::world::{StepFault, World};
 use my_wire::{Sink, Source, write_all};
 use std::alloc::{AllocError, AllocFailed, Global};
@@ -72,7 +72,7 @@ pub struct Player {
 
 impl Player {
     ghost use Rattle.std.specs.Prelude.{◌≡◌, ◌++◌, ◌∷◌, ◌<◌, [], ℕ, List, length, Some, None, OnOk};
-    ghost use Rattle.spider_cli.specs.Playing.{IsReady, run_from, told_by};
+    ghost use Rattle.spider_cli.specs.Playing.{IsReady, NoEnd, run_from, told_by};
     ghost use Rattle.spider_cli.specs.Run.{told, with_front, transcript};
     ghost use Rattle.spider_cli.specs.declared.schedule.LineRule.{LineRule};
 
@@ -123,26 +123,38 @@ impl Player {
         Ok(())
     }
 
-    /// Takes the next byte.
-    fn take_byte(&mut self, alloc: Global, byte: u8, text: &mut Vec<u8>) -> Result<(), PlayFault>
-        requires { IsReady self.old }
+    /// Takes bytes that end no line.
+    fn grow(&mut self, bytes: &[u8]) -> Result<(), PlayFault>
+        requires ready { IsReady self.old }
+        requires no_end { NoEnd bytes.now }
         ensures ready { OnOk result (IsReady self.new) }
-        ensures told { OnOk result ((rest : List ℕ) →
-            with_front text.new.items (told_by self.new rest) ≡ with_front text.old.items (told_by self.old (byte ∷ rest))) }
-        ensures refused { (line : ℕ) (rule : LineRule) → result ≡ Err (PlayFault.Refused line rule) → (rest : List ℕ) →
-            record { text = text.new.items; refusal = Some (line, rule) } ≡ with_front text.old.items (told_by self.old (byte ∷ rest)) }
+        ensures told { OnOk result ((text : List ℕ) (rest : List ℕ) →
+            with_front text (told_by self.new rest) ≡ with_front text (told_by self.old (bytes.now ++ rest))) }
+        ensures refused { (line : ℕ) (rule : LineRule) → result ≡ Err (PlayFault.Refused line rule) → (text : List ℕ) (rest : List ℕ) →
+            record { text = text; refusal = Some (line, rule) } ≡ with_front text (told_by self.old (bytes.now ++ rest)) }
     {
-        if byte == b'\n' {
-            return self.end_line(alloc, text);
-        }
-        if self.line.len() >= LONGEST_LINE {
+        if bytes.len() > LONGEST_LINE - self.line.len() {
             return Err(PlayFault::Refused {
                 line: self.number + 1,
                 rule: LineRule::UnknownWord,
             });
         }
-        self.line.push(byte)?;
+        self.line.extend_from_slice(bytes)?;
         Ok(())
+    }
+
+    /// Takes the rest of a line, and its end.
+    fn take_line(&mut self, alloc: Global, line: &[u8], text: &mut Vec<u8>) -> Result<(), PlayFault>
+        requires ready { IsReady self.old }
+        requires no_end { NoEnd line.now }
+        ensures ready { OnOk result (IsReady self.new) }
+        ensures told { OnOk result ((rest : List ℕ) →
+            with_front text.new.items (told_by self.new rest) ≡ with_front text.old.items (told_by self.old (line.now ++ (10 ∷ rest)))) }
+        ensures refused { (number : ℕ) (rule : LineRule) → result ≡ Err (PlayFault.Refused number rule) → (rest : List ℕ) →
+            record { text = text.new.items; refusal = Some (number, rule) } ≡ with_front text.old.items (told_by self.old (line.now ++ (10 ∷ rest))) }
+    {
+        self.grow(line)?;
+        self.end_line(alloc, text)
     }
 
     /// Takes the next piece, however the schedule is cut.
@@ -154,10 +166,12 @@ impl Player {
         ensures refused { (line : ℕ) (rule : LineRule) → result ≡ Err (PlayFault.Refused line rule) → (rest : List ℕ) →
             record { text = text.new.items; refusal = Some (line, rule) } ≡ with_front text.old.items (told_by self.old (piece.now ++ rest)) }
     {
-        for byte in piece {
-            self.take_byte(alloc, *byte, text)?;
+        let mut left = piece;
+        while let Some((line, more)) = cut_line(left) {
+            self.take_line(alloc, line, text)?;
+            left = more;
         }
-        Ok(())
+        self.grow(left)
     }
 
     /// The schedule is at its end, and its last line had none.

@@ -28,19 +28,7 @@ const LONGEST_TEXT: usize = 20;
 fn strip<'a>(bytes: &'a [u8], word: &[u8]) -> Option<&'a [u8]>
     ensures { option_copied result ≡ after word.now bytes.now }
 {
-    match word {
-        [] => Some(bytes),
-        [first, others @ ..] => match bytes {
-            [] => None,
-            [byte, rest @ ..] => {
-                if *byte == *first {
-                    strip(rest, others)
-                } else {
-                    None
-                }
-            }
-        },
-    }
+    bytes.strip_prefix(word)
 }
 
 /// What stands after the blanks, where there are at least so many.
