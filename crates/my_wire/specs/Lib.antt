@@ -1,3 +1,5 @@
 pub mod Counts
+pub mod Lenenc
 pub mod MemFile
 pub mod Memory
+pub mod Packets

@@ -9,13 +9,19 @@
 #![tactic(auto)]
 
 mod files;
+mod lenenc;
 mod memory;
+mod packet;
+mod packet_reader;
 mod sink;
 mod source;
 
 pub use files::{Files, FilesFault};
+pub use lenenc::{Lenenc, read_lenenc, write_lenenc};
 pub use list_types::Bytes;
 pub use memory::{MemFile, MemFiles, MemSink, MemSource, ScriptedCall};
+pub use packet::{LARGEST_PAYLOAD, Packet, WireFault, write_packet};
+pub use packet_reader::PacketReader;
 pub use sink::{Sink, write_all, write_three};
 pub use source::{Failed, Source};
 
