@@ -78,3 +78,11 @@ number_from (Some fault) old new = old
 -- a reader of which that number is expected from now on
 abbrev pub restarted : Stream → ℕ → Stream
 restarted s expected = record { held = s.held; expected = number_from s.refused s.expected expected; refused = s.refused }
+
+-- a reader after that answer: a packet's bytes are given, a refusal is kept for good, and nothing else changes
+abbrev pub after : Stream → Result (Option Packet) WireFault → Stream
+after s (Ok None) = s
+after s (Ok (Some p)) = given s (drop (length p.payload + 4) s.held)
+after s (Err (TooLarge n)) = refusing s (TooLarge n)
+after s (Err (OutOfOrder expected seq)) = refusing s (OutOfOrder expected seq)
+after s (Err NoMemory) = s
