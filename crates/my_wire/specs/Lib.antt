@@ -1,4 +1,5 @@
 pub mod Counts
+pub mod Grammar
 pub mod Lenenc
 pub mod MemFile
 pub mod Memory
