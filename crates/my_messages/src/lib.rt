@@ -5,7 +5,9 @@
 //! Documentation).
 #![tactic(auto)]
 
+mod command;
 mod reply;
 
+pub use command::{Command, LONGEST_DATABASE, decode_command, encode_command};
 pub use list_types::Text;
 pub use reply::{Cell, CellRow, CellRows, Column, Columns, Reply};
