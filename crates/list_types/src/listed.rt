@@ -77,6 +77,15 @@ impl<T> Listed<T> {
     }
 }
 
+impl<T: Drop> Listed<T> {
+    /// Takes all elements away, and keeps the room for as many.
+    pub fn clear(&mut self)
+        ensures { self.new ≡ [] }
+    {
+        self.items.clear();
+    }
+}
+
 impl<T: Copy> Listed<T> {
     /// Adds these elements at the end.
     pub fn extend_from_slice(&mut self, items: &[T]) -> Result<(), AllocError>

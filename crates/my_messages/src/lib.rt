@@ -6,6 +6,7 @@
 #![tactic(auto)]
 
 mod command;
+mod encode;
 mod reply;
 
 pub use command::{Command, LONGEST_DATABASE, decode_command, encode_command};
