@@ -1,1 +1,3 @@
 pub mod Joined
+pub mod Texts
+pub mod Utf8Steps
