@@ -1,12 +1,13 @@
 -- Texts in UTF-8 are read exactly, whether their length is told, NUL ends them, or the bytes do.
-use Rattle.std.proofs.Common.{◌≡◌, ℕ, zero, suc, ◌+◌, ◌<◌, ◌≤◌, ◌⊎◌, Bool, true, false, cond, ◌&&◌, List, [], ◌∷◌, ◌++◌, length, Result, Ok, Err, refl, sym, ap, subst, ◌∙◌, inl, inr, arith, nat_le, le-leb, eq-eqb, ne_eqb}
+use Rattle.std.proofs.Common.{◌≡◌, ℕ, zero, suc, ◌+◌, ◌<◌, ◌≤◌, ◌⊎◌, Bool, true, false, cond, ◌&&◌, List, [], ◌∷◌, ◌++◌, length, Result, Ok, Err, refl, sym, ap, subst, ◌∙◌, inl, inr, arith, nat_le, ◌==◌, le-leb, eq-eqb, ne_eqb}
 use Rattle.std.proofs.lemmas.Bool.{cases_eq, and_parts, leb-true, eqb-true, eqb-false}
-use Rattle.simdutf8.specs.Steps.{IsClosed, Step, StepsThen}
+use Rattle.simdutf8.specs.Steps.{IsClosed, Step, first, second, later, StepsThen, least_after}
+use Rattle.simdutf8.proofs.Chars.{least_is}
 use Rattle.my_wire.specs.Grammar.{IsBytes, Begins}
-use Rattle.my_wire.proofs.Fields.{Stuck, IsField, IsMessage, ok_is}
+use Rattle.my_wire.proofs.Fields.{IsBytes-append, Stuck, IsField, IsMessage, ok_is}
 use Rattle.my_messages.specs.Fields.{HasNoNul}
 use Rattle.my_messages.specs.Utf8.{owed, may_follow, and_then, and_all, sized_after, nul_after, all_after}
-use Rattle.my_messages.proofs.Utf8Steps.{State, step_of, next_state, may_of, due_bytes, closed_of, owed_of, filled, finished}
+use Rattle.my_messages.proofs.Utf8Steps.{State, may_closed, step_of, next_state, may_of, due_bytes, closed_of, owed_of, filled, finished}
 
 -- which way a test went
 pub chosen : {A : Type 0} (c : Bool) (x y z : A) → cond c x y ≡ z → ((c ≡ true) × (x ≡ z)) ⊎ ((c ≡ false) × (y ≡ z))
@@ -145,4 +146,230 @@ sized_field n x y z s le = record {
   again = λ front rest t h. ap (λ (l : List ℕ). sized_after x y z n (l ++ rest)) h.whole ∙ sized_again n x y z t rest s h.sized h.steps;
   stuck = λ bytes left fits e. sized_stuck n x y z bytes left s le e;
   some = sized_begins n x y z s le;
+}
+
+-- ---- a text that NUL ends
+
+pub record NulAfter (x y z : ℕ) (t bytes : List ℕ) : Type 0 where
+  pub whole : bytes ≡ t ++ 0 ∷ []
+  pub no_nul : HasNoNul t
+  pub steps : StepsThen IsClosed x y z t
+
+-- NUL ends only a text in which no character is open
+nul_closed : (x y z : ℕ) → State x y z → may_follow x y z 0 ≡ true → IsClosed x y z
+nul_closed x y z s may =
+    elim (step_of x y z 0 s may) [
+      first c h ↦ c
+    | second c h f ↦ absurd (let l = least_is z in omega arith)
+    | later c h f ↦ absurd (omega arith)
+    ]
+
+nul_took : (x y z : ℕ) (bytes t rest : List ℕ) → State x y z → nul_after x y z bytes ≡ Ok (t, rest) → (bytes ≡ (t ++ 0 ∷ []) ++ rest) × NulAfter x y z t (t ++ 0 ∷ [])
+nul_took x y z [] t rest s e = absurd cc
+nul_took x y z (b ∷ bytes) t rest s e =
+    elim (chosen (may_follow x y z b) (cond (b == 0) (Ok ([], bytes)) (and_then b (nul_after y z b bytes))) (Err (length (b ∷ bytes))) (Ok (t, rest)) e) [
+      inl h ↦ elim (chosen (b == 0) (Ok ([], bytes)) (and_then b (nul_after y z b bytes)) (Ok (t, rest)) h.1) [
+        inl i ↦
+          let parts = ok_pair [] t bytes rest i.1 in
+          let zero_byte : b ≡ 0 = eqb-true b 0 i.0 in
+          let c = nul_closed x y z s (subst (λ (k : ℕ). may_follow x y z k ≡ true) zero_byte h.0) in
+          (
+            subst (λ (u : List ℕ). b ∷ bytes ≡ (u ++ 0 ∷ []) ++ rest) parts.0 (subst (λ (k : ℕ). k ∷ bytes ≡ 0 ∷ rest) (sym zero_byte) (ap (λ (l : List ℕ). 0 ∷ l) parts.1)),
+            record { whole = refl; no_nul = subst HasNoNul parts.0 tt; steps = subst (StepsThen IsClosed x y z) parts.0 c },
+          )
+      | inr i ↦
+          let u = then_ok b (nul_after y z b bytes) t rest i.1 in
+          let j = nul_took y z b bytes u.0 rest (next_state x y z b s h.0) u.1 in
+          (
+            ap (λ (l : List ℕ). b ∷ l) j.0 ∙ ap (λ (l : List ℕ). (l ++ 0 ∷ []) ++ rest) (sym u.2),
+            record { whole = refl; no_nul = subst HasNoNul (sym u.2) (eqb-false b 0 i.0, j.1.no_nul); steps = subst (StepsThen IsClosed x y z) (sym u.2) (step_of x y z b s h.0, j.1.steps) },
+          )
+      ]
+    | inr h ↦ absurd (let f : Err (length (b ∷ bytes)) ≡ Ok (t, rest) = h.1 in cc)
+    ]
+
+nul_again : (x y z : ℕ) (t rest : List ℕ) → State x y z → HasNoNul t → StepsThen IsClosed x y z t → nul_after x y z ((t ++ 0 ∷ []) ++ rest) ≡ Ok (t, rest)
+nul_again x y z [] rest s nn h =
+    let may : may_follow x y z 0 ≡ true = may_closed x y z 0 h.0 h.1 h.2 (inl (omega arith)) in
+    ap (λ (c : Bool). cond c (Ok ([], rest)) (Err (suc (length rest)))) may
+nul_again x y z (b ∷ t) rest s nn h =
+    let may = may_of x y z b t s h.0 h.1 in
+    let not_nul : (b == 0) ≡ false = ne_eqb b 0 nn.0 in
+    ap (λ (c : Bool). cond c (cond (b == 0) (Ok ([], (t ++ 0 ∷ []) ++ rest)) (and_then b (nul_after y z b ((t ++ 0 ∷ []) ++ rest)))) (Err (length (b ∷ ((t ++ 0 ∷ []) ++ rest))))) may
+    ∙ ap (λ (c : Bool). cond c (Ok ([], (t ++ 0 ∷ []) ++ rest)) (and_then b (nul_after y z b ((t ++ 0 ∷ []) ++ rest)))) not_nul
+    ∙ ap (and_then b) (nul_again y z b t rest (next_state x y z b s may) nn.1 h.1)
+
+nul_begins : (x y z : ℕ) → State x y z → Begins (NulAfter x y z) []
+nul_begins x y z s =
+    let t = finished (owed x y z) x y z s refl in
+    record { value = t.0; more = t.0 ++ 0 ∷ []; are_bytes = IsBytes-append t.0 (0 ∷ []) t.2 (omega arith, tt); spells = record { whole = refl; no_nul = t.3; steps = t.1 } }
+
+-- what a text begins with behind its first byte, which isn't NUL, is the beginning of the rest
+nul_tail : (x y z b : ℕ) (front more t : List ℕ) → (b ≡ 0 → ⊥) → NulAfter x y z t (b ∷ (front ++ more)) → (u : List ℕ) × NulAfter y z b u (front ++ more)
+nul_tail x y z b front more [] not_nul h = absurd (not_nul (let e = h.whole in cc))
+nul_tail x y z b front more (c ∷ u) not_nul h =
+    let same : b ≡ c = let e = h.whole in cc in
+    let tails : front ++ more ≡ u ++ 0 ∷ [] = let e = h.whole in cc in
+    (u, record { whole = tails; no_nul = h.no_nul.1; steps = subst (λ (k : ℕ). StepsThen IsClosed y z k u) (sym same) h.steps.1 })
+
+nul_less : (x y z b : ℕ) (front : List ℕ) → (b ≡ 0 → ⊥) → (Begins (NulAfter y z b) front → ⊥) → Begins (NulAfter x y z) (b ∷ front) → ⊥
+nul_less x y z b front not_nul never begun =
+    let u = nul_tail x y z b front begun.more begun.value not_nul begun.spells in
+    never (record { value = u.0; more = begun.more; are_bytes = begun.are_bytes; spells = u.1 })
+
+nul_no_text : (x y z b : ℕ) (more t : List ℕ) → State x y z → may_follow x y z b ≡ false → NulAfter x y z t (b ∷ more) → ⊥
+nul_no_text x y z b more [] s test h =
+    let same : b ≡ 0 = let e = h.whole in cc in
+    let c = h.steps in
+    not_both (may_follow x y z b) (subst (λ (k : ℕ). may_follow x y z k ≡ true) (sym same) (may_closed x y z 0 c.0 c.1 c.2 (inl (omega arith)))) test
+nul_no_text x y z b more (c ∷ u) s test h =
+    let same : b ≡ c = let e = h.whole in cc in
+    let steps : Step x y z b × StepsThen IsClosed y z b u = subst (λ (k : ℕ). Step x y z k × StepsThen IsClosed y z k u) (sym same) h.steps in
+    not_both (may_follow x y z b) (may_of x y z b u s steps.0 steps.1) test
+
+nul_stuck : (x y z : ℕ) (bytes : List ℕ) (left : ℕ) → State x y z → nul_after x y z bytes ≡ Err left → Stuck (NulAfter x y z) bytes left
+nul_stuck x y z [] left s e =
+    let none : 0 ≡ left = cc in
+    record { before = []; after = []; split = refl; left_is = sym none; begins = nul_begins x y z s; bad = λ b more next begun. absurd (let f : [] ≡ b ∷ more = next in cc) }
+nul_stuck x y z (b ∷ bytes) left s e =
+    elim (chosen (may_follow x y z b) (cond (b == 0) (Ok ([], bytes)) (and_then b (nul_after y z b bytes))) (Err (length (b ∷ bytes))) (Err left) e) [
+      inl h ↦ elim (chosen (b == 0) (Ok ([], bytes)) (and_then b (nul_after y z b bytes)) (Err left) h.1) [
+        inl j ↦ absurd (let f : Ok ([], bytes) ≡ Err left = j.1 in cc)
+      | inr j ↦
+          let not_nul = eqb-false b 0 j.0 in
+          let i = nul_stuck y z b bytes left (next_state x y z b s h.0) (then_err b (nul_after y z b bytes) left j.1) in
+          record {
+            before = b ∷ i.before;
+            after = i.after;
+            split = ap (λ (l : List ℕ). b ∷ l) i.split;
+            left_is = i.left_is;
+            begins = record {
+              value = b ∷ i.begins.value;
+              more = i.begins.more;
+              are_bytes = i.begins.are_bytes;
+              spells = record { whole = ap (λ (l : List ℕ). b ∷ l) i.begins.spells.whole; no_nul = (not_nul, i.begins.spells.no_nul); steps = (step_of x y z b s h.0, i.begins.spells.steps) };
+            };
+            bad = λ d more next begun. nul_less x y z b (i.before ++ d ∷ []) not_nul (i.bad d more next) begun;
+          }
+      ]
+    | inr h ↦
+        let all : length (b ∷ bytes) ≡ left = let f : Err (length (b ∷ bytes)) ≡ Err left = h.1 in cc in
+        record {
+          before = [];
+          after = b ∷ bytes;
+          split = refl;
+          left_is = sym all;
+          begins = nul_begins x y z s;
+          bad = λ d more next begun. let same : b ≡ d = cc in nul_no_text x y z b begun.more begun.value s h.0 (subst (λ (k : ℕ). NulAfter x y z begun.value (k ∷ begun.more)) (sym same) begun.spells);
+        }
+    ]
+
+pub nul_field : (x y z : ℕ) → State x y z → IsField (NulAfter x y z) (nul_after x y z)
+nul_field x y z s = record {
+  took = λ bytes t rest fits e. let h = nul_took x y z bytes t rest s e in (t ++ 0 ∷ [], h.0, h.1);
+  again = λ front rest t h. ap (λ (l : List ℕ). nul_after x y z (l ++ rest)) h.whole ∙ nul_again x y z t rest s h.no_nul h.steps;
+  stuck = λ bytes left fits e. nul_stuck x y z bytes left s e;
+  some = nul_begins x y z s;
+}
+
+-- ---- a text that the bytes end
+
+pub record AllAfter (x y z : ℕ) (t bytes : List ℕ) : Type 0 where
+  pub whole : bytes ≡ t
+  pub steps : StepsThen IsClosed x y z t
+
+all_ok : (b : ℕ) (r : Result (List ℕ) ℕ) (t : List ℕ) → and_all b r ≡ Ok t → (u : List ℕ) × (r ≡ Ok u) × (t ≡ b ∷ u)
+all_ok b (Ok u) t e = (u, refl, sym (ok_is (b ∷ u) t e))
+all_ok b (Err left) t e = absurd cc
+
+all_err : (b : ℕ) (r : Result (List ℕ) ℕ) (left : ℕ) → and_all b r ≡ Err left → r ≡ Err left
+all_err b (Ok u) left e = absurd cc
+all_err b (Err l) left e = cc
+
+all_took : (x y z : ℕ) (bytes t : List ℕ) → State x y z → all_after x y z bytes ≡ Ok t → AllAfter x y z t bytes
+all_took x y z [] t s e =
+    elim (chosen (owed x y z == 0) (Ok []) (Err 0) (Ok t) e) [
+      inl h ↦ let none = ok_is [] t h.1 in record { whole = none; steps = subst (StepsThen IsClosed x y z) none (closed_of x y z s (eqb-true (owed x y z) 0 h.0)) }
+    | inr h ↦ absurd (let f : Err 0 ≡ Ok t = h.1 in cc)
+    ]
+all_took x y z (b ∷ bytes) t s e =
+    elim (chosen (may_follow x y z b) (and_all b (all_after y z b bytes)) (Err (length (b ∷ bytes))) (Ok t) e) [
+      inl h ↦
+        let u = all_ok b (all_after y z b bytes) t h.1 in
+        let i = all_took y z b bytes u.0 (next_state x y z b s h.0) u.1 in
+        record { whole = ap (λ (l : List ℕ). b ∷ l) i.whole ∙ sym u.2; steps = subst (StepsThen IsClosed x y z) (sym u.2) (step_of x y z b s h.0, i.steps) }
+    | inr h ↦ absurd (let f : Err (length (b ∷ bytes)) ≡ Ok t = h.1 in cc)
+    ]
+
+all_again : (x y z : ℕ) (t : List ℕ) → State x y z → StepsThen IsClosed x y z t → all_after x y z t ≡ Ok t
+all_again x y z [] s h = ap (λ (c : Bool). cond c (Ok []) (Err 0)) (eq-eqb (owed x y z) 0 (owed_of x y z h))
+all_again x y z (b ∷ t) s h =
+    let may = may_of x y z b t s h.0 h.1 in
+    ap (λ (c : Bool). cond c (and_all b (all_after y z b t)) (Err (length (b ∷ t)))) may ∙ ap (and_all b) (all_again y z b t (next_state x y z b s may) h.1)
+
+all_begins : (x y z : ℕ) → State x y z → Begins (AllAfter x y z) []
+all_begins x y z s =
+    let t = finished (owed x y z) x y z s refl in record { value = t.0; more = t.0; are_bytes = t.2; spells = record { whole = refl; steps = t.1 } }
+
+all_tail : (x y z b : ℕ) (front more t : List ℕ) → AllAfter x y z t (b ∷ (front ++ more)) → (u : List ℕ) × AllAfter y z b u (front ++ more)
+all_tail x y z b front more [] h = absurd (let e = h.whole in cc)
+all_tail x y z b front more (c ∷ u) h =
+    let same : b ≡ c = let e = h.whole in cc in
+    let tails : front ++ more ≡ u = let e = h.whole in cc in
+    (u, record { whole = tails; steps = subst (λ (k : ℕ). StepsThen IsClosed y z k u) (sym same) h.steps.1 })
+
+all_less : (x y z b : ℕ) (front : List ℕ) → (Begins (AllAfter y z b) front → ⊥) → Begins (AllAfter x y z) (b ∷ front) → ⊥
+all_less x y z b front never begun =
+    let u = all_tail x y z b front begun.more begun.value begun.spells in never (record { value = u.0; more = begun.more; are_bytes = begun.are_bytes; spells = u.1 })
+
+all_no_text : (x y z b : ℕ) (more t : List ℕ) → State x y z → may_follow x y z b ≡ false → AllAfter x y z t (b ∷ more) → ⊥
+all_no_text x y z b more [] s test h = let e : b ∷ more ≡ [] = h.whole in cc
+all_no_text x y z b more (c ∷ u) s test h =
+    let same : b ≡ c = let e = h.whole in cc in
+    let steps : Step x y z b × StepsThen IsClosed y z b u = subst (λ (k : ℕ). Step x y z k × StepsThen IsClosed y z k u) (sym same) h.steps in
+    not_both (may_follow x y z b) (may_of x y z b u s steps.0 steps.1) test
+
+all_stuck : (x y z : ℕ) (bytes : List ℕ) (left : ℕ) → State x y z → all_after x y z bytes ≡ Err left → Stuck (AllAfter x y z) bytes left
+all_stuck x y z [] left s e =
+    elim (chosen (owed x y z == 0) (Ok []) (Err 0) (Err left) e) [
+      inl h ↦ absurd (let f : Ok [] ≡ Err left = h.1 in cc)
+    | inr h ↦
+        let none : 0 ≡ left = let f : Err 0 ≡ Err left = h.1 in cc in
+        record { before = []; after = []; split = refl; left_is = sym none; begins = all_begins x y z s; bad = λ b more next begun. absurd (let f : [] ≡ b ∷ more = next in cc) }
+    ]
+all_stuck x y z (b ∷ bytes) left s e =
+    elim (chosen (may_follow x y z b) (and_all b (all_after y z b bytes)) (Err (length (b ∷ bytes))) (Err left) e) [
+      inl h ↦
+        let i = all_stuck y z b bytes left (next_state x y z b s h.0) (all_err b (all_after y z b bytes) left h.1) in
+        record {
+          before = b ∷ i.before;
+          after = i.after;
+          split = ap (λ (l : List ℕ). b ∷ l) i.split;
+          left_is = i.left_is;
+          begins = record {
+            value = b ∷ i.begins.value;
+            more = i.begins.more;
+            are_bytes = i.begins.are_bytes;
+            spells = record { whole = ap (λ (l : List ℕ). b ∷ l) i.begins.spells.whole; steps = (step_of x y z b s h.0, i.begins.spells.steps) };
+          };
+          bad = λ d more next begun. all_less x y z b (i.before ++ d ∷ []) (i.bad d more next) begun;
+        }
+    | inr h ↦
+        let all : length (b ∷ bytes) ≡ left = let f : Err (length (b ∷ bytes)) ≡ Err left = h.1 in cc in
+        record {
+          before = [];
+          after = b ∷ bytes;
+          split = refl;
+          left_is = sym all;
+          begins = all_begins x y z s;
+          bad = λ d more next begun. let same : b ≡ d = cc in all_no_text x y z b begun.more begun.value s h.0 (subst (λ (k : ℕ). AllAfter x y z begun.value (k ∷ begun.more)) (sym same) begun.spells);
+        }
+    ]
+
+pub all_message : (x y z : ℕ) → State x y z → IsMessage (AllAfter x y z) (all_after x y z)
+all_message x y z s = record {
+  took = λ bytes t fits e. all_took x y z bytes t s e;
+  again = λ bytes t h. ap (all_after x y z) h.whole ∙ all_again x y z t s h.steps;
+  stuck = λ bytes left fits e. all_stuck x y z bytes left s e;
+  some = all_begins x y z s;
 }
