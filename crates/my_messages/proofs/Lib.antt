@@ -1,3 +1,4 @@
+pub mod BadPlaces
 pub mod Joined
 pub mod Texts
 pub mod Utf8Steps

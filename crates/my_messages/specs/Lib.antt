@@ -1,4 +1,5 @@
 pub mod Command
 pub mod Fields
+pub mod Reading
 pub mod Reply
 pub mod Utf8

@@ -1,5 +1,5 @@
 -- UTF-8 byte by byte (The Unicode Standard, Table 3-7, Well-Formed UTF-8 Byte Sequences), after the last three bytes x, y, z.
-use Rattle.std.specs.Prelude.{ℕ, zero, suc, Bool, true, false, List, [], ◌∷◌, length, Result, Ok, Err, nat_lt, nat_le, ◌==◌, ◌&&◌, ◌||◌, if◌then◌else◌}
+use Rattle.std.specs.Prelude.{ℕ, zero, suc, Bool, true, false, List, [], ◌∷◌, length, Option, Some, None, Result, Ok, Err, nat_lt, nat_le, ◌==◌, ◌&&◌, ◌||◌, if◌then◌else◌}
 use Rattle.simdutf8.specs.Steps.{least_after, most_after}
 
 -- how many bytes of a character are still due
@@ -19,6 +19,11 @@ may_follow x y z b =
 abbrev pub and_then : ℕ → Result (List ℕ × List ℕ) ℕ → Result (List ℕ × List ℕ) ℕ
 and_then b (Ok read) = Ok (b ∷ read.0, read.1)
 and_then b (Err left) = Err left
+
+-- where reading stops
+abbrev pub bad_of : {A : Type 0} → Result A ℕ → Option ℕ
+bad_of (Ok read) = None
+bad_of (Err left) = Some left
 
 -- reading the rest of a text of n bytes
 abbrev pub sized_after : ℕ → ℕ → ℕ → ℕ → List ℕ → Result (List ℕ × List ℕ) ℕ

@@ -7,8 +7,13 @@
 
 mod command;
 mod encode;
+mod fault;
+mod fields;
 mod reply;
+mod utf8;
 
 pub use command::{Command, LONGEST_DATABASE, decode_command, encode_command};
+pub use encode::encode_reply;
+pub use fault::MessageFault;
 pub use list_types::Text;
 pub use reply::{Cell, CellRow, CellRows, Column, Columns, Reply};
