@@ -1,13 +1,15 @@
 -- Texts in UTF-8 are read exactly, whether their length is told, NUL ends them, or the bytes do.
-use Rattle.std.proofs.Common.{◌≡◌, ℕ, zero, suc, ◌+◌, ◌<◌, ◌≤◌, ◌⊎◌, Bool, true, false, cond, ◌&&◌, List, [], ◌∷◌, ◌++◌, length, Result, Ok, Err, refl, sym, ap, subst, ◌∙◌, inl, inr, arith, nat_le, ◌==◌, le-leb, eq-eqb, ne_eqb}
+use Rattle.std.proofs.Common.{◌≡◌, ℕ, zero, suc, ◌+◌, ◌<◌, ◌≤◌, ◌⊎◌, Bool, true, false, cond, ◌&&◌, List, [], ◌∷◌, ◌++◌, length, take, drop, Option, None, Result, Ok, Err, refl, sym, ap, subst, ◌∙◌, inl, inr, arith, nat_le, ◌==◌, le-leb, eq-eqb, ne_eqb}
+use Rattle.std.specs.Str.{IsUtf8}
+use Rattle.std.proofs.lemmas.List.{take-append-drop, take_at, length-take, length-append}
 use Rattle.std.proofs.lemmas.Bool.{cases_eq, and_parts, leb-true, eqb-true, eqb-false}
 use Rattle.simdutf8.specs.Steps.{IsClosed, Step, first, second, later, StepsThen, least_after}
-use Rattle.simdutf8.proofs.Chars.{least_is}
+use Rattle.simdutf8.proofs.Chars.{least_is, StepsThen-IsUtf8}
 use Rattle.my_wire.specs.Grammar.{IsBytes, Begins}
 use Rattle.my_wire.proofs.Fields.{IsBytes-append, Stuck, IsField, IsMessage, ok_is}
 use Rattle.my_messages.specs.Fields.{HasNoNul}
-use Rattle.my_messages.specs.Utf8.{owed, may_follow, and_then, and_all, sized_after, nul_after, all_after}
-use Rattle.my_messages.proofs.Utf8Steps.{State, may_closed, step_of, next_state, may_of, due_bytes, closed_of, owed_of, filled, finished}
+use Rattle.my_messages.specs.Utf8.{owed, may_follow, and_then, and_all, sized_after, nul_after, all_after, bad_of}
+use Rattle.my_messages.proofs.Utf8Steps.{State, closed, may_closed, step_of, next_state, may_of, due_bytes, closed_of, owed_of, filled, finished}
 
 -- which way a test went
 pub chosen : {A : Type 0} (c : Bool) (x y z : A) → cond c x y ≡ z → ((c ≡ true) × (x ≡ z)) ⊎ ((c ≡ false) × (y ≡ z))
@@ -373,3 +375,43 @@ all_message x y z s = record {
   stuck = λ bytes left fits e. all_stuck x y z bytes left s e;
   some = all_begins x y z s;
 }
+
+-- ---- whole texts
+
+pub start : State 0 0 0
+start = closed (omega arith) (omega arith) (omega arith)
+
+pub utf8_steps : (t : List ℕ) → IsUtf8 t → StepsThen IsClosed 0 0 0 t
+utf8_steps t u = (StepsThen-IsUtf8 t).1 u
+
+pub steps_utf8 : (t : List ℕ) → StepsThen IsClosed 0 0 0 t → IsUtf8 t
+steps_utf8 t h = (StepsThen-IsUtf8 t).0 h
+
+good : {A : Type 0} (r : Result A ℕ) → bad_of r ≡ None → (x : A) × (r ≡ Ok x)
+good (Ok x) e = (x, refl)
+good (Err left) e = absurd cc
+
+pub utf8_sized : (n : ℕ) (bytes : List ℕ) → n ≤ length bytes → IsUtf8 (take n bytes) → sized_after 0 0 0 n bytes ≡ Ok (take n bytes, drop n bytes)
+utf8_sized n bytes le u =
+    let sized : length (take n bytes) ≡ n = omega (arith, length-take n bytes) in
+    ap (sized_after 0 0 0 n) (sym (take-append-drop n bytes)) ∙ sized_again n 0 0 0 (take n bytes) (drop n bytes) start sized (utf8_steps (take n bytes) u)
+
+pub sized_utf8 : (n : ℕ) (bytes : List ℕ) → bad_of (sized_after 0 0 0 n bytes) ≡ None → (n ≤ length bytes) × IsUtf8 (take n bytes)
+sized_utf8 n bytes e =
+    let g = good (sized_after 0 0 0 n bytes) e in
+    let due : owed 0 0 0 ≤ n = omega arith in
+    let h = sized_took n 0 0 0 bytes g.0.0 g.0.1 start due g.1 in
+    let sized = h.1.sized in
+    let front : take n bytes ≡ g.0.0 = ap (take n) h.0 ∙ take_at g.0.0 g.0.1 n sized in
+    (omega (arith, length-append g.0.0 g.0.1, ap length h.0), subst IsUtf8 (sym front) (steps_utf8 g.0.0 h.1.steps))
+
+pub nul_utf8 : (bytes t rest : List ℕ) → nul_after 0 0 0 bytes ≡ Ok (t, rest) → IsUtf8 t
+nul_utf8 bytes t rest e = steps_utf8 t (nul_took 0 0 0 bytes t rest start e).1.steps
+
+pub all_utf8 : (bytes : List ℕ) → bad_of (all_after 0 0 0 bytes) ≡ None → IsUtf8 bytes
+all_utf8 bytes e =
+    let g = good (all_after 0 0 0 bytes) e in
+    let h = all_took 0 0 0 bytes g.0 start g.1 in subst IsUtf8 (sym h.whole) (steps_utf8 g.0 h.steps)
+
+pub utf8_all : (bytes : List ℕ) → IsUtf8 bytes → all_after 0 0 0 bytes ≡ Ok bytes
+utf8_all bytes u = all_again 0 0 0 bytes start (utf8_steps bytes u)
