@@ -1,5 +1,5 @@
 // The fields that messages are made of ("Protocol Basics, Data Types").
-ghost use Rattle.std.specs.Prelude.{◌≡◌};
+ghost use Rattle.std.specs.Prelude.{◌≡◌, length, IfOk};
 ghost use Rattle.my_messages.specs.Reading.{Reads, literal_at, int_at, fixed_at, number_at, any_at, or_else};
 
 use crate::fault::BadBytes;
@@ -115,7 +115,8 @@ pub(crate) fn u32_at(bytes: &[u8]) -> Result<(u32, &[u8]), BadBytes>
 
 /// So many bytes.
 pub(crate) fn fixed(bytes: &[u8], width: usize) -> Result<(&[u8], &[u8]), BadBytes>
-    ensures { Reads (λ x. (x.0.now, x.1.now)) result (fixed_at width bytes.now) }
+    ensures bytes { Reads (λ x. (x.0.now, x.1.now)) result (fixed_at width bytes.now) }
+    ensures width { IfOk result (λ x. length x.0.now ≡ width) }
 {
     if bytes.len() < width {
         return Err(BadBytes { left: 0 });

@@ -9,7 +9,11 @@ mod command;
 mod encode;
 mod fault;
 mod fields;
+mod reading;
 mod reply;
+mod reply_reader;
+mod row;
+mod stage;
 mod utf8;
 
 pub use command::{Command, LONGEST_DATABASE, decode_command, encode_command};
