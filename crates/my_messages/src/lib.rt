@@ -21,3 +21,4 @@ pub use encode::encode_reply;
 pub use fault::MessageFault;
 pub use list_types::Text;
 pub use reply::{Cell, CellRow, CellRows, Column, Columns, Reply};
+pub use reply_reader::ReplyReader;
