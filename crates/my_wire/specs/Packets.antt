@@ -1,6 +1,7 @@
 -- Protocol::Packet: the payload's length in three bytes, the lowest first, the packet's number, and the payload.
-use Rattle.std.specs.Prelude.{◌≡◌, ℕ, ◌+◌, ◌^◌, ◌%◌, ◌≤◌, List, [], ◌∷◌, ◌++◌, length, take, drop, slice_index, Option, Some, None, Result, Ok, Err, nat_lt, ◌==◌, if◌then◌else◌}
+use Rattle.std.specs.Prelude.{◌≡◌, ◌≢◌, ℕ, ◌+◌, ◌^◌, ◌%◌, ◌<◌, ◌≤◌, List, [], ◌∷◌, ◌++◌, length, take, drop, slice_index, Option, Some, None, Result, Ok, Err, nat_lt, ◌==◌, if◌then◌else◌}
 use Rattle.byteorder.specs.Endian.{little_number, little_bytes}
+use Rattle.my_wire.specs.Grammar.{IsBytes}
 use Rattle.my_wire.specs.declared.packet.Packet.{Packet}
 use Rattle.my_wire.specs.declared.packet.WireFault.{WireFault}
 use Rattle.my_wire.specs.declared.packet.WireFault.TheVariants.{TooLarge, OutOfOrder, NoMemory}
@@ -86,3 +87,27 @@ after s (Ok (Some p)) = given s (drop (length p.payload + 4) s.held)
 after s (Err (TooLarge n)) = refusing s (TooLarge n)
 after s (Err (OutOfOrder expected seq)) = refusing s (OutOfOrder expected seq)
 after s (Err NoMemory) = s
+
+-- a header that is refused: by its length, else by its number
+abbrev pub IsRefused : ℕ → List ℕ → WireFault → Type 0
+IsRefused expected bytes (TooLarge n) = (seq : ℕ) × (more : List ℕ) × (bytes ≡ little_bytes 3 n ++ seq ∷ more) × (most < n) × (n < 2 ^ 24)
+IsRefused expected bytes (OutOfOrder wanted seq) = (n : ℕ) × (more : List ℕ) × (bytes ≡ little_bytes 3 n ++ seq ∷ more) × (n ≤ most) × (wanted ≡ expected) × (seq ≢ expected)
+IsRefused expected bytes NoMemory = ⊥
+
+-- payloads that fit a packet
+abbrev pub AllFit : List (List ℕ) → Type 0
+AllFit [] = Unit {0}
+AllFit (payload ∷ payloads) = (length payload ≤ most) × AllFit payloads
+
+-- a reader that expected that number of its first packet was fed this stream of bytes and has given these payloads
+pub record HasGiven (first : ℕ) (stream : List ℕ) (payloads : List (List ℕ)) (s : Stream) : Type 0 where
+  pub are_bytes : IsBytes stream
+  pub whole : stream ≡ packets first payloads ++ s.held
+  pub number : s.expected ≡ next_after first payloads
+  pub fit : AllFit payloads
+
+-- a stream is packets with these payloads, and then bytes at whose front none stands
+pub record Splits (first : ℕ) (stream : List ℕ) (payloads : List (List ℕ)) (rest : List ℕ) : Type 0 where
+  pub whole : stream ≡ packets first payloads ++ rest
+  pub fit : AllFit payloads
+  pub ends : (payload more : List ℕ) → first_packet (next_after first payloads) rest ≡ Whole payload more → ⊥
