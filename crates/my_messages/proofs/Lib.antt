@@ -1,4 +1,5 @@
 pub mod BadPlaces
+pub mod Forms
 pub mod Joined
 pub mod Rows
 pub mod Texts

@@ -144,7 +144,7 @@ sized_stuck (suc n) x y z (b ∷ bytes) left s le e =
 
 pub sized_field : (n x y z : ℕ) → State x y z → owed x y z ≤ n → IsField (SizedAfter x y z n) (sized_after x y z n)
 sized_field n x y z s le = record {
-  took = λ bytes t rest fits e. let h = sized_took n x y z bytes t rest s le e in (t, h.0, h.1);
+  took = λ bytes t rest e. let h = sized_took n x y z bytes t rest s le e in (t, h.0, h.1);
   again = λ front rest t h. ap (λ (l : List ℕ). sized_after x y z n (l ++ rest)) h.whole ∙ sized_again n x y z t rest s h.sized h.steps;
   stuck = λ bytes left fits e. sized_stuck n x y z bytes left s le e;
   some = sized_begins n x y z s le;
@@ -268,7 +268,7 @@ nul_stuck x y z (b ∷ bytes) left s e =
 
 pub nul_field : (x y z : ℕ) → State x y z → IsField (NulAfter x y z) (nul_after x y z)
 nul_field x y z s = record {
-  took = λ bytes t rest fits e. let h = nul_took x y z bytes t rest s e in (t ++ 0 ∷ [], h.0, h.1);
+  took = λ bytes t rest e. let h = nul_took x y z bytes t rest s e in (t ++ 0 ∷ [], h.0, h.1);
   again = λ front rest t h. ap (λ (l : List ℕ). nul_after x y z (l ++ rest)) h.whole ∙ nul_again x y z t rest s h.no_nul h.steps;
   stuck = λ bytes left fits e. nul_stuck x y z bytes left s e;
   some = nul_begins x y z s;
@@ -370,7 +370,7 @@ all_stuck x y z (b ∷ bytes) left s e =
 
 pub all_message : (x y z : ℕ) → State x y z → IsMessage (AllAfter x y z) (all_after x y z)
 all_message x y z s = record {
-  took = λ bytes t fits e. all_took x y z bytes t s e;
+  took = λ bytes t e. all_took x y z bytes t s e;
   again = λ bytes t h. ap (all_after x y z) h.whole ∙ all_again x y z t s h.steps;
   stuck = λ bytes left fits e. all_stuck x y z bytes left s e;
   some = all_begins x y z s;

@@ -1,9 +1,9 @@
 -- A length-encoded number is read in each of its forms, and in no other.
-use Rattle.std.proofs.Common.{◌≡◌, ℕ, zero, suc, ◌+◌, ◌-◌, ◌*◌, ◌^◌, ◌<◌, ◌≤◌, ◌⊎◌, Bool, true, false, cond, nat_lt, ◌==◌, List, [], ◌∷◌, ◌++◌, length, take, drop, replicate, Option, Some, None, refl, sym, ap, subst, ◌∙◌, append_assoc, inl, inr, arith, lt-ltb, le-ltb, eq-eqb, ne_eqb}
+use Rattle.std.proofs.Common.{◌≡◌, ℕ, zero, suc, ◌+◌, ◌-◌, ◌*◌, ◌^◌, ◌<◌, ◌≤◌, ◌⊎◌, Bool, true, false, cond, nat_lt, ◌==◌, List, [], ◌∷◌, ◌++◌, length, take, drop, replicate, slice_index, Option, Some, None, refl, sym, ap, subst, ◌∙◌, append_assoc, inl, inr, arith, lt-ltb, le-ltb, eq-eqb, ne_eqb}
 use Rattle.std.proofs.lemmas.Bool.{cases_lt, ltb-true, ltb-false, eqb-true, eqb-false}
 use Rattle.std.proofs.lemmas.List.{length-append, length-take, length-replicate, append-nil}
 use Rattle.byteorder.specs.Endian.{little_from, little_number, little_bytes}
-use Rattle.byteorder.specs.Numbers.{little_from-cons, little_from-take, little_from-append, little_number-reads_back, length-bytes_low_first}
+use Rattle.byteorder.specs.Numbers.{little_from-cons, little_from-take, little_from-append, little_number-reads_back, length-bytes_low_first, little_from-lt}
 use Rattle.my_wire.specs.declared.lenenc.Lenenc.{Lenenc}
 use Rattle.my_wire.specs.declared.lenenc.Lenenc.TheVariants.{Number, Null, Short, Bad}
 use Rattle.my_wire.specs.Grammar.{IsBytes, Begins}
@@ -167,4 +167,87 @@ no_number bytes e b more is n rest h =
         let k : lenenc_at (b ∷ more) ≡ Number b 1 = ap (λ (c : Bool). cond c (Number b 1) (cond (b == 0xFB) Null (wide_at (width_of b) more))) (lt-ltb b 251 i.0) in
         elim e [ inl f ↦ (let g : Number b 1 ≡ Null = sym k ∙ at ∙ f in cc) | inr f ↦ (let g : Number b 1 ≡ Bad = sym k ∙ at ∙ f in cc) ]
     | inr i ↦ wide_never (length rest) more (sym (lenenc_wide b (length rest) more i.0) ∙ at) e
+    ]
+
+-- ---- the shortest form
+
+form_of_two : (n : ℕ) → 251 ≤ n → n < 2 ^ 16 → lenenc n ≡ 0xFC ∷ little_bytes 2 n
+form_of_two n p q =
+    ap (λ (c : Bool). cond c (n ∷ []) (cond (nat_lt n (2 ^ 16)) (0xFC ∷ little_bytes 2 n) (cond (nat_lt n (2 ^ 24)) (0xFD ∷ little_bytes 3 n) (0xFE ∷ little_bytes 8 n)))) (le-ltb n 251 p)
+    ∙ ap (λ (c : Bool). cond c (0xFC ∷ little_bytes 2 n) (cond (nat_lt n (2 ^ 24)) (0xFD ∷ little_bytes 3 n) (0xFE ∷ little_bytes 8 n))) (lt-ltb n (2 ^ 16) q)
+
+form_of_three : (n : ℕ) → 2 ^ 16 ≤ n → n < 2 ^ 24 → lenenc n ≡ 0xFD ∷ little_bytes 3 n
+form_of_three n p q =
+    ap (λ (c : Bool). cond c (n ∷ []) (cond (nat_lt n (2 ^ 16)) (0xFC ∷ little_bytes 2 n) (cond (nat_lt n (2 ^ 24)) (0xFD ∷ little_bytes 3 n) (0xFE ∷ little_bytes 8 n)))) (le-ltb n 251 (omega arith))
+    ∙ ap (λ (c : Bool). cond c (0xFC ∷ little_bytes 2 n) (cond (nat_lt n (2 ^ 24)) (0xFD ∷ little_bytes 3 n) (0xFE ∷ little_bytes 8 n))) (le-ltb n (2 ^ 16) p)
+    ∙ ap (λ (c : Bool). cond c (0xFD ∷ little_bytes 3 n) (0xFE ∷ little_bytes 8 n)) (lt-ltb n (2 ^ 24) q)
+
+form_of_eight : (n : ℕ) → 2 ^ 24 ≤ n → lenenc n ≡ 0xFE ∷ little_bytes 8 n
+form_of_eight n p =
+    ap (λ (c : Bool). cond c (n ∷ []) (cond (nat_lt n (2 ^ 16)) (0xFC ∷ little_bytes 2 n) (cond (nat_lt n (2 ^ 24)) (0xFD ∷ little_bytes 3 n) (0xFE ∷ little_bytes 8 n)))) (le-ltb n 251 (omega arith))
+    ∙ ap (λ (c : Bool). cond c (0xFC ∷ little_bytes 2 n) (cond (nat_lt n (2 ^ 24)) (0xFD ∷ little_bytes 3 n) (0xFE ∷ little_bytes 8 n))) (le-ltb n (2 ^ 16) (omega arith))
+    ∙ ap (λ (c : Bool). cond c (0xFD ∷ little_bytes 3 n) (0xFE ∷ little_bytes 8 n)) (le-ltb n (2 ^ 24) p)
+
+form_of_one : (n : ℕ) → n < 251 → lenenc n ≡ n ∷ []
+form_of_one n p = ap (λ (c : Bool). cond c (n ∷ []) (cond (nat_lt n (2 ^ 16)) (0xFC ∷ little_bytes 2 n) (cond (nat_lt n (2 ^ 24)) (0xFD ∷ little_bytes 3 n) (0xFE ∷ little_bytes 8 n)))) (lt-ltb n 251 p)
+
+-- bytes of a number behind a first byte of that width
+wide_form : (first w n : ℕ) → width_of first ≡ Some w → n < 256 ^ w → IsLenenc (first ∷ little_bytes w n) n
+wide_form first w n e lt =
+    let sized : length (little_bytes w n) ≡ w = length-bytes_low_first 0 w n in
+    inr (
+      e ∙ ap (λ (k : ℕ). Some k) (sym sized),
+      sym (ap (λ (k : ℕ). little_number k (little_bytes w n)) sized ∙ ap (little_number w) (sym (append-nil (little_bytes w n))) ∙ little_number-reads_back w n [] lt),
+    )
+
+pub lenenc_form : (n : ℕ) → n < 2 ^ 64 → IsLenenc (lenenc n) n
+lenenc_form n lt =
+    elim (cases_lt n 251) [
+      inl a ↦ subst (λ (l : List ℕ). IsLenenc l n) (sym (form_of_one n a)) (inl (a, refl, refl))
+    | inr a ↦ elim (cases_lt n (2 ^ 16)) [
+        inl b ↦ subst (λ (l : List ℕ). IsLenenc l n) (sym (form_of_two n a b)) (wide_form 0xFC 2 n refl (omega arith))
+      | inr b ↦ elim (cases_lt n (2 ^ 24)) [
+          inl c ↦ subst (λ (l : List ℕ). IsLenenc l n) (sym (form_of_three n b c)) (wide_form 0xFD 3 n refl (omega arith))
+        | inr c ↦ subst (λ (l : List ℕ). IsLenenc l n) (sym (form_of_eight n c)) (wide_form 0xFE 8 n refl (omega arith))
+        ]
+      ]
+    ]
+
+-- ---- none of a number's forms is shorter than the one that is written
+
+index_fits : (bytes : List ℕ) → IsBytes bytes → (k : ℕ) → slice_index bytes k < 256
+index_fits [] h k = omega arith
+index_fits (b ∷ bytes) h zero = h.0
+index_fits (b ∷ bytes) h (suc k) = index_fits bytes h.1 k
+
+-- how long the form is that is written, at most, below each limit
+written_two : (n : ℕ) → n < 2 ^ 16 → length (lenenc n) ≤ 3
+written_two n lt = elim (cases_lt n 251) [ inl a ↦ omega (arith, ap length (form_of_one n a)) | inr a ↦ omega (arith, ap length (form_of_two n a lt)) ]
+
+written_three : (n : ℕ) → n < 2 ^ 24 → length (lenenc n) ≤ 4
+written_three n lt = elim (cases_lt n (2 ^ 16)) [ inl a ↦ omega (arith, written_two n a) | inr a ↦ omega (arith, ap length (form_of_three n a lt)) ]
+
+written : (n : ℕ) → length (lenenc n) ≤ 9
+written n = elim (cases_lt n (2 ^ 24)) [ inl a ↦ omega (arith, written_three n a) | inr a ↦ omega (arith, ap length (form_of_eight n a)) ]
+
+width_is : (first w : ℕ) → width_of first ≡ Some w → (w ≡ 2) ⊎ ((w ≡ 3) ⊎ (w ≡ 8))
+width_is first w e =
+    elim (chosen (first == 0xFC) (Some 2) (cond (first == 0xFD) (Some 3) (cond (first == 0xFE) (Some 8) None)) (Some w) e) [
+      inl h ↦ inl (let k : Some 2 ≡ Some w = h.1 in cc)
+    | inr h ↦ elim (chosen (first == 0xFD) (Some 3) (cond (first == 0xFE) (Some 8) None) (Some w) h.1) [
+        inl i ↦ inr (inl (let k : Some 3 ≡ Some w = i.1 in cc))
+      | inr i ↦ elim (chosen (first == 0xFE) (Some 8) None (Some w) i.1) [ inl j ↦ inr (inr (let k : Some 8 ≡ Some w = j.1 in cc)) | inr j ↦ absurd (let k : None ≡ Some w = j.1 in cc) ]
+      ]
+    ]
+
+pub lenenc_shortest : (n : ℕ) (bytes : List ℕ) → IsBytes bytes → IsLenenc bytes n → length (lenenc n) ≤ length bytes
+lenenc_shortest n [] fits h = absurd h
+lenenc_shortest n (first ∷ more) fits (inl h) =
+    let small : n < 251 = let v = h.2 in let lt = h.0 in omega arith in omega (arith, ap length (form_of_one n small))
+lenenc_shortest n (first ∷ more) fits (inr h) =
+    let value = h.1 in
+    let bound : (w : ℕ) → length more ≡ w → n < 256 ^ w = λ w e. subst (λ (k : ℕ). n < 256 ^ k) e (subst (λ (m : ℕ). m < 256 ^ length more) (sym value) (little_from-lt 0 (length more) more (index_fits more fits.1))) in
+    elim (width_is first (length more) h.0) [
+      inl w ↦ let b = bound 2 w in omega (arith, written_two n (omega arith))
+    | inr r ↦ elim r [ inl w ↦ let b = bound 3 w in omega (arith, written_three n (omega arith)) | inr w ↦ omega (arith, written n) ]
     ]

@@ -9,6 +9,7 @@
 #![tactic(auto)]
 
 mod files;
+mod laws;
 mod lenenc;
 mod memory;
 mod packet;
@@ -17,6 +18,10 @@ mod sink;
 mod source;
 
 pub use files::{Files, FilesFault};
+pub use laws::{
+    lengths_are_read, lengths_are_shortest, packets_are_found, payloads_are_the_stream,
+    streams_split_in_one_way,
+};
 pub use lenenc::{Lenenc, read_lenenc, write_lenenc};
 pub use list_types::Bytes;
 pub use memory::{MemFile, MemFiles, MemSink, MemSource, ScriptedCall};
