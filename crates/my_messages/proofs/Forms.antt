@@ -1,10 +1,10 @@
 -- The fields that messages are made of, and alternatives, are read exactly.
-use Rattle.std.proofs.Common.{◌≡◌, ℕ, zero, suc, ◌+◌, ◌-◌, ◌<◌, ◌≤◌, ◌⊎◌, Bool, true, false, cond, nat_lt, ◌==◌, min, List, [], ◌∷◌, ◌++◌, length, take, drop, replicate, Option, Some, None, Result, Ok, Err, refl, sym, ap, subst, ◌∙◌, append_assoc, inl, inr, arith, lt-ltb, le-ltb, eq-eqb, ne_eqb}
-use Rattle.std.proofs.lemmas.Bool.{cases_lt, cases_eq, ltb-true, ltb-false, eqb-true, eqb-false}
+use Rattle.std.proofs.Common.{◌≡◌, ℕ, suc, ◌-◌, ◌≤◌, ◌⊎◌, Bool, false, cond, nat_lt, ◌==◌, min, List, [], ◌∷◌, ◌++◌, length, take, drop, replicate, Result, Ok, Err, refl, sym, ap, subst, ◌∙◌, append_assoc, inl, inr, arith, le-ltb, eq-eqb}
+use Rattle.std.proofs.lemmas.Bool.{cases_lt, ltb-true, ltb-false, eqb-true, eqb-false}
 use Rattle.std.proofs.lemmas.List.{length-append, length-take, length-replicate, take_at, drop_at, take-append-drop, append-nil, nil_from_length}
 use Rattle.byteorder.specs.Endian.{little_number}
-use Rattle.my_wire.specs.Grammar.{IsBytes, Then, Begins, IsExactly, IsEnd, ◌>>=◌}
-use Rattle.my_wire.specs.Lenenc.{IsLenenc, lenenc_at}
+use Rattle.my_wire.specs.Grammar.{IsBytes, Begins, IsEnd}
+use Rattle.my_wire.specs.Lenenc.{lenenc_at}
 use Rattle.my_wire.specs.declared.lenenc.Lenenc.{Lenenc}
 use Rattle.my_wire.specs.declared.lenenc.Lenenc.TheVariants.{Number, Null, Short, Bad}
 use Rattle.my_wire.proofs.Fields.{IsBytes-front, IsBytes-rest, IsBytes-append, fronts_meet, Stuck, IsField, IsMessage, ok_is}
@@ -23,23 +23,23 @@ at_after : {X : Type 0} (Q : X → List ℕ → Type 0) (bytes : List ℕ) (left
 at_after Q bytes left s before d more fits split le begun [] is = let l = s.left_is in let n = ap length is in omega (arith, l, n)
 at_after Q bytes left s before d more fits split le begun (e ∷ after) is =
     let here : (s.before ++ e ∷ []) ++ after ≡ (before ++ d ∷ []) ++ more =
-        append_assoc s.before (e ∷ []) after ∙ ap (λ (l : List ℕ). s.before ++ l) (sym is) ∙ sym s.split ∙ split ∙ sym (append_assoc before (d ∷ []) more) in
+    append_assoc s.before (e ∷ []) after ∙ ap (λ (l : List ℕ). s.before ++ l) (sym is) ∙ sym s.split ∙ split ∙ sym (append_assoc before (d ∷ []) more) in
     elim (fronts_meet (s.before ++ e ∷ []) after (before ++ d ∷ []) more here) [
-      inl m ↦
-        let front_fits : IsBytes (before ++ d ∷ []) = IsBytes-front (before ++ d ∷ []) more (subst IsBytes (split ∙ sym (append_assoc before (d ∷ []) more)) fits) in
-        let m_fits : IsBytes m.0 = IsBytes-rest (s.before ++ e ∷ []) m.0 (subst IsBytes m.1 front_fits) in
-        s.bad e after is (begins_front Q (s.before ++ e ∷ []) m.0 m_fits (subst (Begins Q) m.1 begun))
-    | inr m ↦
-        let l = s.left_is in
-        let n = ap length is in
-        let total = ap length here in
-        let x = length-append (s.before ++ e ∷ []) after in
-        let y = length-append (before ++ d ∷ []) more in
-        let z = ap length m.1 in
-        let w = length-append (before ++ d ∷ []) m.0 in
-        let none : m.0 ≡ [] = nil_from_length m.0 (omega (arith, l, n, total, x, y, z, w)) in
-        let same : before ++ d ∷ [] ≡ s.before ++ e ∷ [] = sym (m.1 ∙ ap (λ (k : List ℕ). (before ++ d ∷ []) ++ k) none ∙ append-nil (before ++ d ∷ [])) in
-        s.bad e after is (subst (Begins Q) same begun)
+      | inl m ↦
+          let front_fits : IsBytes (before ++ d ∷ []) = IsBytes-front (before ++ d ∷ []) more (subst IsBytes (split ∙ sym (append_assoc before (d ∷ []) more)) fits) in
+          let m_fits : IsBytes m.0 = IsBytes-rest (s.before ++ e ∷ []) m.0 (subst IsBytes m.1 front_fits) in
+          s.bad e after is (begins_front Q (s.before ++ e ∷ []) m.0 m_fits (subst (Begins Q) m.1 begun))
+      | inr m ↦
+          let l = s.left_is in
+          let n = ap length is in
+          let total = ap length here in
+          let x = length-append (s.before ++ e ∷ []) after in
+          let y = length-append (before ++ d ∷ []) more in
+          let z = ap length m.1 in
+          let w = length-append (before ++ d ∷ []) m.0 in
+          let none : m.0 ≡ [] = nil_from_length m.0 (omega (arith, l, n, total, x, y, z, w)) in
+          let same : before ++ d ∷ [] ≡ s.before ++ e ∷ [] = sym (m.1 ∙ ap (λ (k : List ℕ). (before ++ d ∷ []) ++ k) none ∙ append-nil (before ++ d ∷ [])) in
+          s.bad e after is (subst (Begins Q) same begun)
     ]
 
 -- a form that stopped no later doesn't begin with the bytes up to there
@@ -54,7 +54,7 @@ Either P Q x bytes = P x bytes ⊎ Q x bytes
 pub either_stuck : {X : Type 0} (P Q : X → List ℕ → Type 0) (bytes : List ℕ) (l m : ℕ) → IsBytes bytes → Stuck P bytes l → Stuck Q bytes m → Stuck (Either P Q) bytes (min l m)
 either_stuck P Q bytes l m fits s t =
     elim (cases_lt m l) [
-      inl lt ↦ record {
+      | inl lt ↦ record {
         before = t.before;
         after = t.after;
         split = t.split;
@@ -63,11 +63,11 @@ either_stuck P Q bytes l m fits s t =
         bad = λ b more next begun.
             let split : bytes ≡ t.before ++ b ∷ more = t.split ∙ ap (λ (k : List ℕ). t.before ++ k) next in
             elim begun.spells [
-              inl p ↦ stopped_before P bytes l s t.before b more fits split (let k = t.left_is in let n = ap length next in omega (arith, k, n)) (record { value = begun.value; more = begun.more; are_bytes = begun.are_bytes; spells = p })
-            | inr q ↦ t.bad b more next (record { value = begun.value; more = begun.more; are_bytes = begun.are_bytes; spells = q })
+              | inl p ↦ stopped_before P bytes l s t.before b more fits split (let k = t.left_is in let n = ap length next in omega (arith, k, n)) (record { value = begun.value; more = begun.more; are_bytes = begun.are_bytes; spells = p })
+              | inr q ↦ t.bad b more next (record { value = begun.value; more = begun.more; are_bytes = begun.are_bytes; spells = q })
             ];
       }
-    | inr le ↦ record {
+      | inr le ↦ record {
         before = s.before;
         after = s.after;
         split = s.split;
@@ -76,8 +76,8 @@ either_stuck P Q bytes l m fits s t =
         bad = λ b more next begun.
             let split : bytes ≡ s.before ++ b ∷ more = s.split ∙ ap (λ (k : List ℕ). s.before ++ k) next in
             elim begun.spells [
-              inl p ↦ s.bad b more next (record { value = begun.value; more = begun.more; are_bytes = begun.are_bytes; spells = p })
-            | inr q ↦ stopped_before Q bytes m t s.before b more fits split (let k = s.left_is in let n = ap length next in omega (arith, k, n)) (record { value = begun.value; more = begun.more; are_bytes = begun.are_bytes; spells = q })
+              | inl p ↦ s.bad b more next (record { value = begun.value; more = begun.more; are_bytes = begun.are_bytes; spells = p })
+              | inr q ↦ stopped_before Q bytes m t s.before b more fits split (let k = s.left_is in let n = ap length next in omega (arith, k, n)) (record { value = begun.value; more = begun.more; are_bytes = begun.are_bytes; spells = q })
             ];
       }
     ]
@@ -121,8 +121,8 @@ either_field {X} P Q r s m n apart = record {
       elim (or_ok (r bytes) (s bytes) (x, rest) e) [ inl f ↦ (let t = m.took bytes x rest f in (t.0, t.1, inl t.2)) | inr f ↦ (let t = n.took bytes x rest f in (t.0, t.1, inr t.2)) ];
   again = λ front rest x h.
       elim h [
-        inl p ↦ or_first (r (front ++ rest)) (s (front ++ rest)) (x, rest) (m.again front rest x p)
-      | inr q ↦ or_second (r (front ++ rest)) (s (front ++ rest)) (x, rest) (λ y f. let t = m.took (front ++ rest) y.0 y.1 f in apart y.0 x t.0 front y.1 rest t.2 q (sym t.1)) (n.again front rest x q)
+        | inl p ↦ or_first (r (front ++ rest)) (s (front ++ rest)) (x, rest) (m.again front rest x p)
+        | inr q ↦ or_second (r (front ++ rest)) (s (front ++ rest)) (x, rest) (λ y f. let t = m.took (front ++ rest) y.0 y.1 f in apart y.0 x t.0 front y.1 rest t.2 q (sym t.1)) (n.again front rest x q)
       ];
   stuck = λ bytes left fits e.
       let f = or_err (r bytes) (s bytes) left e in
@@ -164,8 +164,8 @@ literal_took [] bytes x rest e = ap (λ (p : Unit {0} × List ℕ). p.1) (ok_is 
 literal_took (c ∷ expected) [] x rest e = absurd cc
 literal_took (c ∷ expected) (b ∷ bytes) x rest e =
     elim (chosen (b == c) (literal_at expected bytes) (Err (length (b ∷ bytes))) (Ok (x, rest)) e) [
-      inl h ↦ ap (λ (l : List ℕ). b ∷ l) (literal_took expected bytes x rest h.1) ∙ ap (λ (k : ℕ). k ∷ (expected ++ rest)) (eqb-true b c h.0)
-    | inr h ↦ absurd (let f : Err (length (b ∷ bytes)) ≡ Ok (x, rest) = h.1 in cc)
+      | inl h ↦ ap (λ (l : List ℕ). b ∷ l) (literal_took expected bytes x rest h.1) ∙ ap (λ (k : ℕ). k ∷ (expected ++ rest)) (eqb-true b c h.0)
+      | inr h ↦ absurd (let f : Err (length (b ∷ bytes)) ≡ Ok (x, rest) = h.1 in cc)
     ]
 
 literal_again : (expected rest : List ℕ) → literal_at expected (expected ++ rest) ≡ Ok (tt, rest)
@@ -177,33 +177,36 @@ literal_stuck [] bytes left ex e = absurd cc
 literal_stuck (c ∷ expected) [] left ex e =
     let none : 0 ≡ left = cc in
     record {
-      before = []; after = []; split = refl; left_is = sym none;
+      before = [];
+      after = [];
+      split = refl;
+      left_is = sym none;
       begins = record { value = tt; more = c ∷ expected; are_bytes = ex; spells = refl };
       bad = λ b more next begun. (let f : [] ≡ b ∷ more = next in cc);
     }
 literal_stuck (c ∷ expected) (b ∷ bytes) left ex e =
     elim (chosen (b == c) (literal_at expected bytes) (Err (length (b ∷ bytes))) (Err left) e) [
-      inl h ↦
-        let same = eqb-true b c h.0 in
-        let i = literal_stuck expected bytes left ex.1 h.1 in
-        record {
-          before = b ∷ i.before;
-          after = i.after;
-          split = ap (λ (l : List ℕ). b ∷ l) i.split;
-          left_is = i.left_is;
-          begins = record { value = tt; more = i.begins.more; are_bytes = i.begins.are_bytes; spells = ap (λ (l : List ℕ). b ∷ l) i.begins.spells ∙ ap (λ (k : ℕ). k ∷ expected) same };
-          bad = λ d more next begun. i.bad d more next (record { value = tt; more = begun.more; are_bytes = begun.are_bytes; spells = (let f : b ∷ ((i.before ++ d ∷ []) ++ begun.more) ≡ c ∷ expected = begun.spells in cc) });
-        }
-    | inr h ↦
-        let all : length (b ∷ bytes) ≡ left = let f : Err (length (b ∷ bytes)) ≡ Err left = h.1 in cc in
-        record {
-          before = [];
-          after = b ∷ bytes;
-          split = refl;
-          left_is = sym all;
-          begins = record { value = tt; more = c ∷ expected; are_bytes = ex; spells = refl };
-          bad = λ d more next begun. let first : b ≡ d = cc in let other : d ≡ c = (let f : d ∷ begun.more ≡ c ∷ expected = begun.spells in cc) in eqb-false b c h.0 (first ∙ other);
-        }
+      | inl h ↦
+          let same = eqb-true b c h.0 in
+          let i = literal_stuck expected bytes left ex.1 h.1 in
+          record {
+            before = b ∷ i.before;
+            after = i.after;
+            split = ap (λ (l : List ℕ). b ∷ l) i.split;
+            left_is = i.left_is;
+            begins = record { value = tt; more = i.begins.more; are_bytes = i.begins.are_bytes; spells = ap (λ (l : List ℕ). b ∷ l) i.begins.spells ∙ ap (λ (k : ℕ). k ∷ expected) same };
+            bad = λ d more next begun. i.bad d more next (record { value = tt; more = begun.more; are_bytes = begun.are_bytes; spells = (let f : b ∷ ((i.before ++ d ∷ []) ++ begun.more) ≡ c ∷ expected = begun.spells in cc) });
+          }
+      | inr h ↦
+          let all : length (b ∷ bytes) ≡ left = let f : Err (length (b ∷ bytes)) ≡ Err left = h.1 in cc in
+          record {
+            before = [];
+            after = b ∷ bytes;
+            split = refl;
+            left_is = sym all;
+            begins = record { value = tt; more = c ∷ expected; are_bytes = ex; spells = refl };
+            bad = λ d more next begun. let first : b ≡ d = cc in let other : d ≡ c = (let f : d ∷ begun.more ≡ c ∷ expected = begun.spells in cc) in eqb-false b c h.0 (first ∙ other);
+          }
     ]
 
 pub literal_field : (expected : List ℕ) → IsBytes expected → IsField (λ (x : Unit {0}) (bytes : List ℕ). bytes ≡ expected) (literal_at expected)
@@ -229,16 +232,15 @@ pub wide_field : {X : Type 0} (width : ℕ) (value : List ℕ → X) (P : X → 
 wide_field {X} width value P w = record {
   took = λ bytes x rest e.
       elim (chosen (nat_lt (length bytes) width) (Err 0) (Ok (value (take width bytes), drop width bytes)) (Ok (x, rest)) e) [
-        inl h ↦ absurd (let f : Err 0 ≡ Ok (x, rest) = h.1 in cc)
-      | inr h ↦
-          let p = ok_is (value (take width bytes), drop width bytes) (x, rest) h.1 in
-          let long = ltb-false (length bytes) width h.0 in
-          let sized : length (take width bytes) ≡ width = omega (arith, length-take width bytes) in
-          (
-            take width bytes,
-            sym (take-append-drop width bytes) ∙ ap (λ (l : List ℕ). take width bytes ++ l) (ap (λ (q : X × List ℕ). q.1) p),
-            subst (λ (y : X). P y (take width bytes)) (ap (λ (q : X × List ℕ). q.0) p) (w.of (take width bytes) sized),
-          )
+        | inl h ↦ absurd (let f : Err 0 ≡ Ok (x, rest) = h.1 in cc)
+        | inr h ↦
+            let p = ok_is (value (take width bytes), drop width bytes) (x, rest) h.1 in
+            let long = ltb-false (length bytes) width h.0 in
+            let sized : length (take width bytes) ≡ width = omega (arith, length-take width bytes) in (
+              take width bytes,
+              sym (take-append-drop width bytes) ∙ ap (λ (l : List ℕ). take width bytes ++ l) (ap (λ (q : X × List ℕ). q.1) p),
+              subst (λ (y : X). P y (take width bytes)) (ap (λ (q : X × List ℕ). q.0) p) (w.of (take width bytes) sized),
+            )
       ];
   again = λ front rest x h.
       let sized = w.sized x front h in
@@ -249,20 +251,20 @@ wide_field {X} width value P w = record {
       ∙ ap (λ (y : X). Ok (y, rest)) (sym (w.value_is x front h));
   stuck = λ bytes left fits e.
       elim (chosen (nat_lt (length bytes) width) (Err 0) (Ok (value (take width bytes), drop width bytes)) (Err left) e) [
-        inr h ↦ absurd (let f : Ok (value (take width bytes), drop width bytes) ≡ Err left = h.1 in cc)
-      | inl h ↦
-          let none : 0 ≡ left = let f : Err 0 ≡ Err left = h.1 in cc in
-          let short = ltb-true (length bytes) width h.0 in
-          let pad : List ℕ = replicate (width - length bytes) 0 in
-          let sized : length (bytes ++ pad) ≡ width = omega (arith, length-append bytes pad, length-replicate {A = ℕ} (width - length bytes) 0) in
-          record {
-            before = bytes;
-            after = [];
-            split = sym (append-nil bytes);
-            left_is = sym none;
-            begins = record { value = value (bytes ++ pad); more = pad; are_bytes = zeros_are_bytes (width - length bytes); spells = w.of (bytes ++ pad) sized };
-            bad = λ b more next begun. (let f : [] ≡ b ∷ more = next in cc);
-          }
+        | inr h ↦ absurd (let f : Ok (value (take width bytes), drop width bytes) ≡ Err left = h.1 in cc)
+        | inl h ↦
+            let none : 0 ≡ left = let f : Err 0 ≡ Err left = h.1 in cc in
+            let short = ltb-true (length bytes) width h.0 in
+            let pad : List ℕ = replicate (width - length bytes) 0 in
+            let sized : length (bytes ++ pad) ≡ width = omega (arith, length-append bytes pad, length-replicate {A = ℕ} (width - length bytes) 0) in
+            record {
+              before = bytes;
+              after = [];
+              split = sym (append-nil bytes);
+              left_is = sym none;
+              begins = record { value = value (bytes ++ pad); more = pad; are_bytes = zeros_are_bytes (width - length bytes); spells = w.of (bytes ++ pad) sized };
+              bad = λ b more next begun. (let f : [] ≡ b ∷ more = next in cc);
+            }
       ];
   some = let pad : List ℕ = replicate width 0 in record { value = value pad; more = pad; are_bytes = zeros_are_bytes width; spells = w.of pad (length-replicate {A = ℕ} width 0) };
 }
@@ -278,8 +280,7 @@ fixed_field width = wide_field width (λ bytes. bytes) (IsFixed width) (record {
 number_took : (bytes : List ℕ) (r : Lenenc) (n : ℕ) (rest : List ℕ) → lenenc_at bytes ≡ r → number_from bytes r ≡ Ok (n, rest) → (front : List ℕ) × (bytes ≡ front ++ rest) × IsNumber n front
 number_took bytes (Number value used) n rest is e =
     let p = ok_is (value, drop used bytes) (n, rest) e in
-    let f = lenenc_found bytes value used is in
-    (
+    let f = lenenc_found bytes value used is in (
       take used bytes,
       sym (take-append-drop used bytes) ∙ ap (λ (l : List ℕ). take used bytes ++ l) (ap (λ (q : ℕ × List ℕ). q.1) p),
       subst (λ (m : ℕ). IsNumber m (take used bytes)) (ap (λ (q : ℕ × List ℕ). q.0) p) f.1,

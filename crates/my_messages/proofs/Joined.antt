@@ -1,5 +1,5 @@
 -- Packets one after the other.
-use Rattle.std.proofs.Common.{◌≡◌, ℕ, List, [], ◌∷◌, ◌++◌, refl, sym, ap, subst, ◌∙◌, append_assoc}
+use Rattle.std.proofs.Common.{◌≡◌, ℕ, List, [], ◌∷◌, ◌++◌, refl, sym, ap, ◌∙◌, append_assoc}
 use Rattle.std.proofs.lemmas.List.{append-nil}
 use Rattle.my_wire.specs.Packets.{packet, packets, next, next_after}
 
@@ -19,11 +19,11 @@ pub result_joined : (seq n1 n2 n3 n4 : ℕ) (count eof : List ℕ) (defs rows : 
     → o5 ≡ packets seq (count ∷ (defs ++ (eof ∷ (rows ++ eof ∷ []))))
 result_joined seq n1 n2 n3 n4 count eof defs rows o1 o2 o3 o4 o5 e1 m1 e2 m2 e3 m3 e4 m4 e5 =
     let last : packets n3 (rows ++ eof ∷ []) ≡ packets n3 rows ++ packet n4 eof =
-        packets-append n3 rows (eof ∷ []) ∙ ap (λ (n : ℕ). packets n3 rows ++ (packet n eof ++ [])) (sym m4) ∙ ap (λ (l : List ℕ). packets n3 rows ++ l) (append-nil (packet n4 eof)) in
+    packets-append n3 rows (eof ∷ []) ∙ ap (λ (n : ℕ). packets n3 rows ++ (packet n eof ++ [])) (sym m4) ∙ ap (λ (l : List ℕ). packets n3 rows ++ l) (append-nil (packet n4 eof)) in
     let middle : packets n2 (eof ∷ (rows ++ eof ∷ [])) ≡ packet n2 eof ++ (packets n3 rows ++ packet n4 eof) =
-        ap (λ (n : ℕ). packet n2 eof ++ packets n (rows ++ eof ∷ [])) (sym m3) ∙ ap (λ (l : List ℕ). packet n2 eof ++ l) last in
+    ap (λ (n : ℕ). packet n2 eof ++ packets n (rows ++ eof ∷ [])) (sym m3) ∙ ap (λ (l : List ℕ). packet n2 eof ++ l) last in
     let begun : packets n1 (defs ++ (eof ∷ (rows ++ eof ∷ []))) ≡ packets n1 defs ++ (packet n2 eof ++ (packets n3 rows ++ packet n4 eof)) =
-        packets-append n1 defs (eof ∷ (rows ++ eof ∷ [])) ∙ ap (λ (n : ℕ). packets n1 defs ++ packets n (eof ∷ (rows ++ eof ∷ []))) (sym m2) ∙ ap (λ (l : List ℕ). packets n1 defs ++ l) middle in
+    packets-append n1 defs (eof ∷ (rows ++ eof ∷ [])) ∙ ap (λ (n : ℕ). packets n1 defs ++ packets n (eof ∷ (rows ++ eof ∷ []))) (sym m2) ∙ ap (λ (l : List ℕ). packets n1 defs ++ l) middle in
     let whole : packets seq (count ∷ (defs ++ (eof ∷ (rows ++ eof ∷ [])))) ≡ packet seq count ++ (packets n1 defs ++ (packet n2 eof ++ (packets n3 rows ++ packet n4 eof))) =
-        ap (λ (n : ℕ). packet seq count ++ packets n (defs ++ (eof ∷ (rows ++ eof ∷ [])))) (sym m1) ∙ ap (λ (l : List ℕ). packet seq count ++ l) begun in
+    ap (λ (n : ℕ). packet seq count ++ packets n (defs ++ (eof ∷ (rows ++ eof ∷ [])))) (sym m1) ∙ ap (λ (l : List ℕ). packet seq count ++ l) begun in
     pieces (packet seq count) (packets n1 defs) (packet n2 eof) (packets n3 rows) (packet n4 eof) o1 o2 o3 o4 o5 e1 e2 e3 e4 e5 ∙ sym whole

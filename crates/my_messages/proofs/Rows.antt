@@ -1,8 +1,8 @@
 -- Reading values one after the other, as a loop does.
-use Rattle.std.proofs.Common.{◌≡◌, ℕ, zero, suc, ◌-◌, ◌+◌, ◌≤◌, ◌<◌, List, [], ◌∷◌, ◌++◌, Option, Result, Ok, Err, refl, sym, ap, ◌∙◌, append_assoc, arith}
+use Rattle.std.proofs.Common.{◌≡◌, ℕ, suc, ◌-◌, ◌+◌, ◌≤◌, ◌<◌, List, [], ◌∷◌, ◌++◌, Option, Result, Ok, Err, refl, sym, ap, ◌∙◌, append_assoc, arith}
 use Rattle.std.proofs.lemmas.List.{append-nil}
 use Rattle.my_wire.specs.Grammar.{◌>>=◌}
-use Rattle.my_messages.specs.Reading.{Gives, Fails, cell_at, cells_at, end_at}
+use Rattle.my_messages.specs.Reading.{Fails, cell_at, cells_at, end_at}
 use Rattle.my_messages.specs.declared.fault.ReadFault.{ReadFault}
 use Rattle.my_messages.specs.declared.fault.ReadFault.TheVariants as faults
 

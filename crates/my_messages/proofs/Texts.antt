@@ -1,11 +1,11 @@
 -- Texts in UTF-8 are read exactly, whether their length is told, NUL ends them, or the bytes do.
-use Rattle.std.proofs.Common.{◌≡◌, ℕ, zero, suc, ◌+◌, ◌<◌, ◌≤◌, ◌⊎◌, Bool, true, false, cond, ◌&&◌, List, [], ◌∷◌, ◌++◌, length, take, drop, Option, None, Result, Ok, Err, refl, sym, ap, subst, ◌∙◌, inl, inr, arith, nat_le, ◌==◌, le-leb, eq-eqb, ne_eqb}
+use Rattle.std.proofs.Common.{◌≡◌, ℕ, zero, suc, ◌≤◌, ◌⊎◌, Bool, true, false, cond, ◌&&◌, List, [], ◌∷◌, ◌++◌, length, take, drop, None, Result, Ok, Err, refl, sym, ap, subst, ◌∙◌, inl, inr, arith, nat_le, ◌==◌, le-leb, eq-eqb, ne_eqb}
 use Rattle.std.specs.Str.{IsUtf8}
 use Rattle.std.proofs.lemmas.List.{take-append-drop, take_at, length-take, length-append}
-use Rattle.std.proofs.lemmas.Bool.{cases_eq, and_parts, leb-true, eqb-true, eqb-false}
-use Rattle.simdutf8.specs.Steps.{IsClosed, Step, first, second, later, StepsThen, least_after}
+use Rattle.std.proofs.lemmas.Bool.{and_parts, leb-true, eqb-true, eqb-false}
+use Rattle.simdutf8.specs.Steps.{IsClosed, Step, first, second, later, StepsThen}
 use Rattle.simdutf8.proofs.Chars.{least_is, StepsThen-IsUtf8}
-use Rattle.my_wire.specs.Grammar.{IsBytes, Begins}
+use Rattle.my_wire.specs.Grammar.{Begins}
 use Rattle.my_wire.proofs.Fields.{IsBytes-append, Stuck, IsField, IsMessage, ok_is}
 use Rattle.my_messages.specs.Fields.{HasNoNul}
 use Rattle.my_messages.specs.Utf8.{owed, may_follow, and_then, and_all, sized_after, nul_after, all_after, bad_of}
@@ -51,16 +51,15 @@ sized_took zero x y z bytes t rest s le e =
 sized_took (suc n) x y z [] t rest s le e = absurd cc
 sized_took (suc n) x y z (b ∷ bytes) t rest s le e =
     elim (chosen (may_follow x y z b && nat_le (owed y z b) n) (and_then b (sized_after y z b n bytes)) (Err (length (b ∷ bytes))) (Ok (t, rest)) e) [
-      inl h ↦
-        let tests = and_parts (may_follow x y z b) (nat_le (owed y z b) n) h.0 in
-        let u = then_ok b (sized_after y z b n bytes) t rest h.1 in
-        let le' = leb-true (owed y z b) n tests.1 in
-        let i = sized_took n y z b bytes u.0 rest (next_state x y z b s tests.0) le' u.1 in
-        (
-          ap (λ (l : List ℕ). b ∷ l) i.0 ∙ ap (λ (l : List ℕ). l ++ rest) (sym u.2),
-          record { whole = refl; sized = ap length u.2 ∙ ap suc i.1.sized; steps = subst (StepsThen IsClosed x y z) (sym u.2) (step_of x y z b s tests.0, i.1.steps) },
-        )
-    | inr h ↦ absurd (let f : Err (length (b ∷ bytes)) ≡ Ok (t, rest) = h.1 in cc)
+      | inl h ↦
+          let tests = and_parts (may_follow x y z b) (nat_le (owed y z b) n) h.0 in
+          let u = then_ok b (sized_after y z b n bytes) t rest h.1 in
+          let le' = leb-true (owed y z b) n tests.1 in
+          let i = sized_took n y z b bytes u.0 rest (next_state x y z b s tests.0) le' u.1 in (
+            ap (λ (l : List ℕ). b ∷ l) i.0 ∙ ap (λ (l : List ℕ). l ++ rest) (sym u.2),
+            record { whole = refl; sized = ap length u.2 ∙ ap suc i.1.sized; steps = subst (StepsThen IsClosed x y z) (sym u.2) (step_of x y z b s tests.0, i.1.steps) },
+          )
+      | inr h ↦ absurd (let f : Err (length (b ∷ bytes)) ≡ Ok (t, rest) = h.1 in cc)
     ]
 
 pub sized_again : (n x y z : ℕ) (t rest : List ℕ) → State x y z → length t ≡ n → StepsThen IsClosed x y z t → sized_after x y z n (t ++ rest) ≡ Ok (t, rest)
@@ -113,33 +112,33 @@ sized_stuck (suc n) x y z [] left s le e =
     record { before = []; after = []; split = refl; left_is = sym none; begins = sized_begins (suc n) x y z s le; bad = λ b more next begun. absurd (let f : [] ≡ b ∷ more = next in cc) }
 sized_stuck (suc n) x y z (b ∷ bytes) left s le e =
     elim (chosen (may_follow x y z b && nat_le (owed y z b) n) (and_then b (sized_after y z b n bytes)) (Err (length (b ∷ bytes))) (Err left) e) [
-      inl h ↦
-        let tests = and_parts (may_follow x y z b) (nat_le (owed y z b) n) h.0 in
-        let le' = leb-true (owed y z b) n tests.1 in
-        let i = sized_stuck n y z b bytes left (next_state x y z b s tests.0) le' (then_err b (sized_after y z b n bytes) left h.1) in
-        record {
-          before = b ∷ i.before;
-          after = i.after;
-          split = ap (λ (l : List ℕ). b ∷ l) i.split;
-          left_is = i.left_is;
-          begins = record {
-            value = b ∷ i.begins.value;
-            more = i.begins.more;
-            are_bytes = i.begins.are_bytes;
-            spells = record { whole = ap (λ (l : List ℕ). b ∷ l) i.begins.spells.whole; sized = ap suc i.begins.spells.sized; steps = (step_of x y z b s tests.0, i.begins.spells.steps) };
-          };
-          bad = λ d more next begun. sized_less n x y z b (i.before ++ d ∷ []) (i.bad d more next) begun;
-        }
-    | inr h ↦
-        let all : length (b ∷ bytes) ≡ left = let f : Err (length (b ∷ bytes)) ≡ Err left = h.1 in cc in
-        record {
-          before = [];
-          after = b ∷ bytes;
-          split = refl;
-          left_is = sym all;
-          begins = sized_begins (suc n) x y z s le;
-          bad = λ d more next begun. let same : b ≡ d = cc in sized_no n x y z b s h.0 (subst (λ (k : ℕ). Begins (SizedAfter x y z (suc n)) (k ∷ [])) (sym same) begun);
-        }
+      | inl h ↦
+          let tests = and_parts (may_follow x y z b) (nat_le (owed y z b) n) h.0 in
+          let le' = leb-true (owed y z b) n tests.1 in
+          let i = sized_stuck n y z b bytes left (next_state x y z b s tests.0) le' (then_err b (sized_after y z b n bytes) left h.1) in
+          record {
+            before = b ∷ i.before;
+            after = i.after;
+            split = ap (λ (l : List ℕ). b ∷ l) i.split;
+            left_is = i.left_is;
+            begins = record {
+              value = b ∷ i.begins.value;
+              more = i.begins.more;
+              are_bytes = i.begins.are_bytes;
+              spells = record { whole = ap (λ (l : List ℕ). b ∷ l) i.begins.spells.whole; sized = ap suc i.begins.spells.sized; steps = (step_of x y z b s tests.0, i.begins.spells.steps) };
+            };
+            bad = λ d more next begun. sized_less n x y z b (i.before ++ d ∷ []) (i.bad d more next) begun;
+          }
+      | inr h ↦
+          let all : length (b ∷ bytes) ≡ left = let f : Err (length (b ∷ bytes)) ≡ Err left = h.1 in cc in
+          record {
+            before = [];
+            after = b ∷ bytes;
+            split = refl;
+            left_is = sym all;
+            begins = sized_begins (suc n) x y z s le;
+            bad = λ d more next begun. let same : b ≡ d = cc in sized_no n x y z b s h.0 (subst (λ (k : ℕ). Begins (SizedAfter x y z (suc n)) (k ∷ [])) (sym same) begun);
+          }
     ]
 
 pub sized_field : (n x y z : ℕ) → State x y z → owed x y z ≤ n → IsField (SizedAfter x y z n) (sized_after x y z n)
@@ -161,33 +160,31 @@ pub record NulAfter (x y z : ℕ) (t bytes : List ℕ) : Type 0 where
 nul_closed : (x y z : ℕ) → State x y z → may_follow x y z 0 ≡ true → IsClosed x y z
 nul_closed x y z s may =
     elim (step_of x y z 0 s may) [
-      first c h ↦ c
-    | second c h f ↦ absurd (let l = least_is z in omega arith)
-    | later c h f ↦ absurd (omega arith)
+      | first c h ↦ c
+      | second c h f ↦ absurd (let l = least_is z in omega arith)
+      | later c h f ↦ absurd (omega arith)
     ]
 
 nul_took : (x y z : ℕ) (bytes t rest : List ℕ) → State x y z → nul_after x y z bytes ≡ Ok (t, rest) → (bytes ≡ (t ++ 0 ∷ []) ++ rest) × NulAfter x y z t (t ++ 0 ∷ [])
 nul_took x y z [] t rest s e = absurd cc
 nul_took x y z (b ∷ bytes) t rest s e =
     elim (chosen (may_follow x y z b) (cond (b == 0) (Ok ([], bytes)) (and_then b (nul_after y z b bytes))) (Err (length (b ∷ bytes))) (Ok (t, rest)) e) [
-      inl h ↦ elim (chosen (b == 0) (Ok ([], bytes)) (and_then b (nul_after y z b bytes)) (Ok (t, rest)) h.1) [
-        inl i ↦
-          let parts = ok_pair [] t bytes rest i.1 in
-          let zero_byte : b ≡ 0 = eqb-true b 0 i.0 in
-          let c = nul_closed x y z s (subst (λ (k : ℕ). may_follow x y z k ≡ true) zero_byte h.0) in
-          (
-            subst (λ (u : List ℕ). b ∷ bytes ≡ (u ++ 0 ∷ []) ++ rest) parts.0 (subst (λ (k : ℕ). k ∷ bytes ≡ 0 ∷ rest) (sym zero_byte) (ap (λ (l : List ℕ). 0 ∷ l) parts.1)),
-            record { whole = refl; no_nul = subst HasNoNul parts.0 tt; steps = subst (StepsThen IsClosed x y z) parts.0 c },
-          )
-      | inr i ↦
-          let u = then_ok b (nul_after y z b bytes) t rest i.1 in
-          let j = nul_took y z b bytes u.0 rest (next_state x y z b s h.0) u.1 in
-          (
-            ap (λ (l : List ℕ). b ∷ l) j.0 ∙ ap (λ (l : List ℕ). (l ++ 0 ∷ []) ++ rest) (sym u.2),
-            record { whole = refl; no_nul = subst HasNoNul (sym u.2) (eqb-false b 0 i.0, j.1.no_nul); steps = subst (StepsThen IsClosed x y z) (sym u.2) (step_of x y z b s h.0, j.1.steps) },
-          )
+      | inl h ↦ elim (chosen (b == 0) (Ok ([], bytes)) (and_then b (nul_after y z b bytes)) (Ok (t, rest)) h.1) [
+        | inl i ↦
+            let parts = ok_pair [] t bytes rest i.1 in
+            let zero_byte : b ≡ 0 = eqb-true b 0 i.0 in
+            let c = nul_closed x y z s (subst (λ (k : ℕ). may_follow x y z k ≡ true) zero_byte h.0) in (
+              subst (λ (u : List ℕ). b ∷ bytes ≡ (u ++ 0 ∷ []) ++ rest) parts.0 (subst (λ (k : ℕ). k ∷ bytes ≡ 0 ∷ rest) (sym zero_byte) (ap (λ (l : List ℕ). 0 ∷ l) parts.1)),
+              record { whole = refl; no_nul = subst HasNoNul parts.0 tt; steps = subst (StepsThen IsClosed x y z) parts.0 c },
+            )
+        | inr i ↦
+            let u = then_ok b (nul_after y z b bytes) t rest i.1 in
+            let j = nul_took y z b bytes u.0 rest (next_state x y z b s h.0) u.1 in (
+              ap (λ (l : List ℕ). b ∷ l) j.0 ∙ ap (λ (l : List ℕ). (l ++ 0 ∷ []) ++ rest) (sym u.2),
+              record { whole = refl; no_nul = subst HasNoNul (sym u.2) (eqb-false b 0 i.0, j.1.no_nul); steps = subst (StepsThen IsClosed x y z) (sym u.2) (step_of x y z b s h.0, j.1.steps) },
+            )
       ]
-    | inr h ↦ absurd (let f : Err (length (b ∷ bytes)) ≡ Ok (t, rest) = h.1 in cc)
+      | inr h ↦ absurd (let f : Err (length (b ∷ bytes)) ≡ Ok (t, rest) = h.1 in cc)
     ]
 
 nul_again : (x y z : ℕ) (t rest : List ℕ) → State x y z → HasNoNul t → StepsThen IsClosed x y z t → nul_after x y z ((t ++ 0 ∷ []) ++ rest) ≡ Ok (t, rest)
@@ -235,35 +232,35 @@ nul_stuck x y z [] left s e =
     record { before = []; after = []; split = refl; left_is = sym none; begins = nul_begins x y z s; bad = λ b more next begun. absurd (let f : [] ≡ b ∷ more = next in cc) }
 nul_stuck x y z (b ∷ bytes) left s e =
     elim (chosen (may_follow x y z b) (cond (b == 0) (Ok ([], bytes)) (and_then b (nul_after y z b bytes))) (Err (length (b ∷ bytes))) (Err left) e) [
-      inl h ↦ elim (chosen (b == 0) (Ok ([], bytes)) (and_then b (nul_after y z b bytes)) (Err left) h.1) [
-        inl j ↦ absurd (let f : Ok ([], bytes) ≡ Err left = j.1 in cc)
-      | inr j ↦
-          let not_nul = eqb-false b 0 j.0 in
-          let i = nul_stuck y z b bytes left (next_state x y z b s h.0) (then_err b (nul_after y z b bytes) left j.1) in
-          record {
-            before = b ∷ i.before;
-            after = i.after;
-            split = ap (λ (l : List ℕ). b ∷ l) i.split;
-            left_is = i.left_is;
-            begins = record {
-              value = b ∷ i.begins.value;
-              more = i.begins.more;
-              are_bytes = i.begins.are_bytes;
-              spells = record { whole = ap (λ (l : List ℕ). b ∷ l) i.begins.spells.whole; no_nul = (not_nul, i.begins.spells.no_nul); steps = (step_of x y z b s h.0, i.begins.spells.steps) };
-            };
-            bad = λ d more next begun. nul_less x y z b (i.before ++ d ∷ []) not_nul (i.bad d more next) begun;
-          }
+      | inl h ↦ elim (chosen (b == 0) (Ok ([], bytes)) (and_then b (nul_after y z b bytes)) (Err left) h.1) [
+        | inl j ↦ absurd (let f : Ok ([], bytes) ≡ Err left = j.1 in cc)
+        | inr j ↦
+            let not_nul = eqb-false b 0 j.0 in
+            let i = nul_stuck y z b bytes left (next_state x y z b s h.0) (then_err b (nul_after y z b bytes) left j.1) in
+            record {
+              before = b ∷ i.before;
+              after = i.after;
+              split = ap (λ (l : List ℕ). b ∷ l) i.split;
+              left_is = i.left_is;
+              begins = record {
+                value = b ∷ i.begins.value;
+                more = i.begins.more;
+                are_bytes = i.begins.are_bytes;
+                spells = record { whole = ap (λ (l : List ℕ). b ∷ l) i.begins.spells.whole; no_nul = (not_nul, i.begins.spells.no_nul); steps = (step_of x y z b s h.0, i.begins.spells.steps) };
+              };
+              bad = λ d more next begun. nul_less x y z b (i.before ++ d ∷ []) not_nul (i.bad d more next) begun;
+            }
       ]
-    | inr h ↦
-        let all : length (b ∷ bytes) ≡ left = let f : Err (length (b ∷ bytes)) ≡ Err left = h.1 in cc in
-        record {
-          before = [];
-          after = b ∷ bytes;
-          split = refl;
-          left_is = sym all;
-          begins = nul_begins x y z s;
-          bad = λ d more next begun. let same : b ≡ d = cc in nul_no_text x y z b begun.more begun.value s h.0 (subst (λ (k : ℕ). NulAfter x y z begun.value (k ∷ begun.more)) (sym same) begun.spells);
-        }
+      | inr h ↦
+          let all : length (b ∷ bytes) ≡ left = let f : Err (length (b ∷ bytes)) ≡ Err left = h.1 in cc in
+          record {
+            before = [];
+            after = b ∷ bytes;
+            split = refl;
+            left_is = sym all;
+            begins = nul_begins x y z s;
+            bad = λ d more next begun. let same : b ≡ d = cc in nul_no_text x y z b begun.more begun.value s h.0 (subst (λ (k : ℕ). NulAfter x y z begun.value (k ∷ begun.more)) (sym same) begun.spells);
+          }
     ]
 
 pub nul_field : (x y z : ℕ) → State x y z → IsField (NulAfter x y z) (nul_after x y z)
@@ -291,16 +288,16 @@ all_err b (Err l) left e = cc
 all_took : (x y z : ℕ) (bytes t : List ℕ) → State x y z → all_after x y z bytes ≡ Ok t → AllAfter x y z t bytes
 all_took x y z [] t s e =
     elim (chosen (owed x y z == 0) (Ok []) (Err 0) (Ok t) e) [
-      inl h ↦ let none = ok_is [] t h.1 in record { whole = none; steps = subst (StepsThen IsClosed x y z) none (closed_of x y z s (eqb-true (owed x y z) 0 h.0)) }
-    | inr h ↦ absurd (let f : Err 0 ≡ Ok t = h.1 in cc)
+      | inl h ↦ let none = ok_is [] t h.1 in record { whole = none; steps = subst (StepsThen IsClosed x y z) none (closed_of x y z s (eqb-true (owed x y z) 0 h.0)) }
+      | inr h ↦ absurd (let f : Err 0 ≡ Ok t = h.1 in cc)
     ]
 all_took x y z (b ∷ bytes) t s e =
     elim (chosen (may_follow x y z b) (and_all b (all_after y z b bytes)) (Err (length (b ∷ bytes))) (Ok t) e) [
-      inl h ↦
-        let u = all_ok b (all_after y z b bytes) t h.1 in
-        let i = all_took y z b bytes u.0 (next_state x y z b s h.0) u.1 in
-        record { whole = ap (λ (l : List ℕ). b ∷ l) i.whole ∙ sym u.2; steps = subst (StepsThen IsClosed x y z) (sym u.2) (step_of x y z b s h.0, i.steps) }
-    | inr h ↦ absurd (let f : Err (length (b ∷ bytes)) ≡ Ok t = h.1 in cc)
+      | inl h ↦
+          let u = all_ok b (all_after y z b bytes) t h.1 in
+          let i = all_took y z b bytes u.0 (next_state x y z b s h.0) u.1 in
+          record { whole = ap (λ (l : List ℕ). b ∷ l) i.whole ∙ sym u.2; steps = subst (StepsThen IsClosed x y z) (sym u.2) (step_of x y z b s h.0, i.steps) }
+      | inr h ↦ absurd (let f : Err (length (b ∷ bytes)) ≡ Ok t = h.1 in cc)
     ]
 
 all_again : (x y z : ℕ) (t : List ℕ) → State x y z → StepsThen IsClosed x y z t → all_after x y z t ≡ Ok t
@@ -334,38 +331,38 @@ all_no_text x y z b more (c ∷ u) s test h =
 all_stuck : (x y z : ℕ) (bytes : List ℕ) (left : ℕ) → State x y z → all_after x y z bytes ≡ Err left → Stuck (AllAfter x y z) bytes left
 all_stuck x y z [] left s e =
     elim (chosen (owed x y z == 0) (Ok []) (Err 0) (Err left) e) [
-      inl h ↦ absurd (let f : Ok [] ≡ Err left = h.1 in cc)
-    | inr h ↦
-        let none : 0 ≡ left = let f : Err 0 ≡ Err left = h.1 in cc in
-        record { before = []; after = []; split = refl; left_is = sym none; begins = all_begins x y z s; bad = λ b more next begun. absurd (let f : [] ≡ b ∷ more = next in cc) }
+      | inl h ↦ absurd (let f : Ok [] ≡ Err left = h.1 in cc)
+      | inr h ↦
+          let none : 0 ≡ left = let f : Err 0 ≡ Err left = h.1 in cc in
+          record { before = []; after = []; split = refl; left_is = sym none; begins = all_begins x y z s; bad = λ b more next begun. absurd (let f : [] ≡ b ∷ more = next in cc) }
     ]
 all_stuck x y z (b ∷ bytes) left s e =
     elim (chosen (may_follow x y z b) (and_all b (all_after y z b bytes)) (Err (length (b ∷ bytes))) (Err left) e) [
-      inl h ↦
-        let i = all_stuck y z b bytes left (next_state x y z b s h.0) (all_err b (all_after y z b bytes) left h.1) in
-        record {
-          before = b ∷ i.before;
-          after = i.after;
-          split = ap (λ (l : List ℕ). b ∷ l) i.split;
-          left_is = i.left_is;
-          begins = record {
-            value = b ∷ i.begins.value;
-            more = i.begins.more;
-            are_bytes = i.begins.are_bytes;
-            spells = record { whole = ap (λ (l : List ℕ). b ∷ l) i.begins.spells.whole; steps = (step_of x y z b s h.0, i.begins.spells.steps) };
-          };
-          bad = λ d more next begun. all_less x y z b (i.before ++ d ∷ []) (i.bad d more next) begun;
-        }
-    | inr h ↦
-        let all : length (b ∷ bytes) ≡ left = let f : Err (length (b ∷ bytes)) ≡ Err left = h.1 in cc in
-        record {
-          before = [];
-          after = b ∷ bytes;
-          split = refl;
-          left_is = sym all;
-          begins = all_begins x y z s;
-          bad = λ d more next begun. let same : b ≡ d = cc in all_no_text x y z b begun.more begun.value s h.0 (subst (λ (k : ℕ). AllAfter x y z begun.value (k ∷ begun.more)) (sym same) begun.spells);
-        }
+      | inl h ↦
+          let i = all_stuck y z b bytes left (next_state x y z b s h.0) (all_err b (all_after y z b bytes) left h.1) in
+          record {
+            before = b ∷ i.before;
+            after = i.after;
+            split = ap (λ (l : List ℕ). b ∷ l) i.split;
+            left_is = i.left_is;
+            begins = record {
+              value = b ∷ i.begins.value;
+              more = i.begins.more;
+              are_bytes = i.begins.are_bytes;
+              spells = record { whole = ap (λ (l : List ℕ). b ∷ l) i.begins.spells.whole; steps = (step_of x y z b s h.0, i.begins.spells.steps) };
+            };
+            bad = λ d more next begun. all_less x y z b (i.before ++ d ∷ []) (i.bad d more next) begun;
+          }
+      | inr h ↦
+          let all : length (b ∷ bytes) ≡ left = let f : Err (length (b ∷ bytes)) ≡ Err left = h.1 in cc in
+          record {
+            before = [];
+            after = b ∷ bytes;
+            split = refl;
+            left_is = sym all;
+            begins = all_begins x y z s;
+            bad = λ d more next begun. let same : b ≡ d = cc in all_no_text x y z b begun.more begun.value s h.0 (subst (λ (k : ℕ). AllAfter x y z begun.value (k ∷ begun.more)) (sym same) begun.spells);
+          }
     ]
 
 pub all_message : (x y z : ℕ) → State x y z → IsMessage (AllAfter x y z) (all_after x y z)

@@ -1,10 +1,9 @@
 -- Reading UTF-8 byte by byte finds the first byte at which no text goes on.
-use Rattle.std.proofs.Common.{◌≡◌, ℕ, zero, suc, ◌+◌, ◌-◌, ◌<◌, ◌≤◌, ◌⊎◌, Bool, true, false, ◌&&◌, List, [], ◌∷◌, ◌++◌, length, Result, Ok, Err, refl, sym, ap, subst, ◌∙◌, inl, inr, arith, nat_le, nat_lt, lt-ltb, le-ltb, le-leb, eq-eqb, ne_eqb}
-use Rattle.std.proofs.lemmas.Bool.{cases_lt, cases_eq, and_parts}
-use Rattle.std.proofs.lemmas.Grind.{common_steps}
+use Rattle.std.proofs.Common.{◌≡◌, ℕ, zero, suc, ◌+◌, ◌<◌, ◌≤◌, ◌⊎◌, true, List, [], ◌∷◌, length, refl, ap, inl, inr, arith, le-leb}
+use Rattle.std.proofs.lemmas.Bool.{cases_lt, cases_eq}
 use Rattle.std.proofs.lemmas.Bool.Decides.{nat_tests}
-use Rattle.simdutf8.specs.Steps.{IsContinuation, least_after, most_after, IsClosed, Step, first, second, later, StepsThen}
-use Rattle.simdutf8.proofs.Chars.{least_is, most_is, StepsThen-IsUtf8}
+use Rattle.simdutf8.specs.Steps.{least_after, most_after, IsClosed, Step, first, second, later, StepsThen}
+use Rattle.simdutf8.proofs.Chars.{least_is, most_is}
 use Rattle.my_wire.specs.Grammar.{IsBytes}
 use Rattle.my_messages.specs.Fields.{HasNoNul}
 use Rattle.my_messages.specs.Utf8.{owed, may_follow}
@@ -31,8 +30,8 @@ owed_two x y z p = grind (arith, nat_tests)
 pub owed_lead : (x y z : ℕ) → x < 0xF0 → y < 0xE0 → 0xC0 ≤ z → ((z < 0xE0) × (owed x y z ≡ 1)) ⊎ ((0xE0 ≤ z) × (z < 0xF0) × (owed x y z ≡ 2)) ⊎ ((0xF0 ≤ z) × (owed x y z ≡ 3))
 owed_lead x y z p q r =
     elim (cases_lt z 0xE0) [
-      inl a ↦ inl (a, grind (arith, nat_tests))
-    | inr a ↦ elim (cases_lt z 0xF0) [ inl b ↦ inr (inl (a, b, grind (arith, nat_tests))) | inr b ↦ inr (inr (b, grind (arith, nat_tests))) ]
+      | inl a ↦ inl (a, grind (arith, nat_tests))
+      | inr a ↦ elim (cases_lt z 0xF0) [ inl b ↦ inr (inl (a, b, grind (arith, nat_tests))) | inr b ↦ inr (inr (b, grind (arith, nat_tests))) ]
     ]
 
 -- what a byte that may follow is
@@ -82,9 +81,9 @@ lead_of : (y z b : ℕ) (bs : List ℕ) → y < 0xE0 → z < 0xC0 → 0xC0 ≤ b
 lead_of y z b [] p q r rest = absurd (omega arith)
 lead_of y z b (d ∷ bs) p q r rest =
     elim rest.0 [
-      first c h ↦ absurd (omega arith)
-    | second c h f ↦ h
-    | later h c f ↦ absurd (omega arith)
+      | first c h ↦ absurd (omega arith)
+      | second c h f ↦ h
+      | later h c f ↦ absurd (omega arith)
     ]
 
 -- each byte pays one that is due
@@ -95,16 +94,16 @@ owed_less x y z b (lead p q r s) h =
     let l = least_is z in
     let m = most_is z in
     elim (owed_lead x y z p q (omega arith)) [
-      inl a ↦ omega (arith, a.1)
-    | inr a ↦ elim a [
-        inl c ↦ omega (arith, c.2, owed_one y z b (omega arith) c.0 c.1)
-      | inr c ↦ omega (arith, c.1, owed_one_four y z b (omega arith) c.0)
+      | inl a ↦ omega (arith, a.1)
+      | inr a ↦ elim a [
+        | inl c ↦ omega (arith, c.2, owed_one y z b (omega arith) c.0 c.1)
+        | inr c ↦ omega (arith, c.1, owed_one_four y z b (omega arith) c.0)
       ]
     ]
 owed_less x y z b (one p q r s t) h =
     elim (cases_lt y 0xF0) [
-      inl a ↦ omega (arith, owed_one x y z p q a)
-    | inr a ↦ omega (arith, owed_one_four x y z p a, owed_two y z b a)
+      | inl a ↦ omega (arith, owed_one x y z p q a)
+      | inr a ↦ omega (arith, owed_one_four x y z p a, owed_two y z b a)
     ]
 owed_less x y z b (two p q r s t) h = omega (arith, owed_two x y z p)
 
@@ -112,8 +111,8 @@ owed_less x y z b (two p q r s t) h = omega (arith, owed_two x y z p)
 pub may_of : (x y z b : ℕ) (bs : List ℕ) → State x y z → Step x y z b → StepsThen IsClosed y z b bs → may_follow x y z b ≡ true
 may_of x y z b bs (closed p q r) (first c h) rest =
     elim h [
-      inl a ↦ may_closed x y z b p q r (inl a)
-    | inr a ↦ may_closed x y z b p q r (inr (lead_of y z b bs q r a rest))
+      | inl a ↦ may_closed x y z b p q r (inl a)
+      | inr a ↦ may_closed x y z b p q r (inr (lead_of y z b bs q r a rest))
     ]
 may_of x y z b bs (closed p q r) (second c h f) rest = absurd (omega arith)
 may_of x y z b bs (closed p q r) (later h c d) rest = absurd (omega arith)
@@ -146,17 +145,17 @@ owed_pays x y z b (lead p q r s) due h =
     let l = least_is z in
     let m = most_is z in
     elim (owed_lead x y z p q (omega arith)) [
-      inl a ↦ omega (arith, a.1, owed_closed y z b (omega arith) a.0 (omega arith))
-    | inr a ↦ elim a [
-        inl c ↦ omega (arith, c.2, owed_one y z b (omega arith) c.0 c.1)
-      | inr c ↦ omega (arith, c.1, owed_one_four y z b (omega arith) c.0)
+      | inl a ↦ omega (arith, a.1, owed_closed y z b (omega arith) a.0 (omega arith))
+      | inr a ↦ elim a [
+        | inl c ↦ omega (arith, c.2, owed_one y z b (omega arith) c.0 c.1)
+        | inr c ↦ omega (arith, c.1, owed_one_four y z b (omega arith) c.0)
       ]
     ]
 owed_pays x y z b (one p q r s t) due h =
     let f = follows_later x y z b t due h in
     elim (cases_lt y 0xF0) [
-      inl a ↦ omega (arith, owed_one x y z p q a, owed_closed y z b a (omega arith) f.1)
-    | inr a ↦ omega (arith, owed_one_four x y z p a, owed_two y z b a)
+      | inl a ↦ omega (arith, owed_one x y z p q a, owed_closed y z b a (omega arith) f.1)
+      | inr a ↦ omega (arith, owed_one_four x y z p a, owed_two y z b a)
     ]
 owed_pays x y z b (two p q r s t) due h =
     let f = follows_later x y z b t due h in
@@ -187,17 +186,17 @@ pub filled : (n x y z : ℕ) → State x y z → owed x y z ≤ n → (t : List 
 filled zero x y z s le = ([], refl, closed_of x y z s (omega arith), tt)
 filled (suc n) x y z s le =
     elim (cases_eq (owed x y z) 0) [
-      inl e ↦
-        let c = closed_of x y z s e in
-        let may = may_closed x y z 0 c.0 c.1 c.2 (inl (omega arith)) in
-        let next : State y z 0 = next_state x y z 0 s may in
-        let t = filled n y z 0 next (omega (arith, owed_closed y z 0 (omega arith) (omega arith) (omega arith))) in
-        (0 ∷ t.0, ap suc t.1, (step_of x y z 0 s may, t.2), (omega arith, t.3))
-    | inr e ↦
-        let b = due_byte x y z s (omega arith) in
-        let next : State y z b.0 = next_state x y z b.0 s b.3 in
-        let t = filled n y z b.0 next (omega (arith, owed_pays x y z b.0 s (omega arith) b.3)) in
-        (b.0 ∷ t.0, ap suc t.1, (step_of x y z b.0 s b.3, t.2), (b.2, t.3))
+      | inl e ↦
+          let c = closed_of x y z s e in
+          let may = may_closed x y z 0 c.0 c.1 c.2 (inl (omega arith)) in
+          let next : State y z 0 = next_state x y z 0 s may in
+          let t = filled n y z 0 next (omega (arith, owed_closed y z 0 (omega arith) (omega arith) (omega arith))) in
+          (0 ∷ t.0, ap suc t.1, (step_of x y z 0 s may, t.2), (omega arith, t.3))
+      | inr e ↦
+          let b = due_byte x y z s (omega arith) in
+          let next : State y z b.0 = next_state x y z b.0 s b.3 in
+          let t = filled n y z b.0 next (omega (arith, owed_pays x y z b.0 s (omega arith) b.3)) in
+          (b.0 ∷ t.0, ap suc t.1, (step_of x y z b.0 s b.3, t.2), (b.2, t.3))
     ]
 
 -- the shortest text, which has no NUL

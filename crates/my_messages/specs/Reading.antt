@@ -1,5 +1,5 @@
 -- Reading messages from left to right. What can't be read tells how many bytes are left from the first bad one on.
-use Rattle.std.specs.Prelude.{◌≡◌, ℕ, zero, suc, ◌+◌, ◌-◌, min, List, [], ◌∷◌, ◌++◌, length, take, drop, Option, Some, None, Result, Ok, Err, nat_lt, ◌==◌, if◌then◌else◌, codes}
+use Rattle.std.specs.Prelude.{◌≡◌, ℕ, zero, suc, ◌-◌, min, List, [], ◌∷◌, length, take, drop, Option, Some, None, Result, Ok, Err, nat_lt, ◌==◌, if◌then◌else◌, codes}
 use Rattle.byteorder.specs.Endian.{little_number}
 use Rattle.my_wire.specs.Grammar.{◌>>=◌}
 use Rattle.my_wire.specs.Lenenc.{lenenc_at}

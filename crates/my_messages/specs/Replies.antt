@@ -17,8 +17,8 @@ use Rattle.my_messages.specs.declared.stage.Stage.TheVariants as stages
 -- the first payload of a reply: an OK, an ERR, a number of columns or a request to log in by another plugin
 unfoldable pub first_at : List ℕ → Result FirstPayload ℕ
 first_at bytes =
-  or_else (ok_at bytes >>= λ r. Ok (Whole r)) (or_else (err_at bytes >>= λ r. Ok (Whole r))
-  (or_else (count_at bytes >>= λ n. Ok (Columns n)) (switch_at bytes >>= λ r. Ok (Whole r))))
+    or_else (ok_at bytes >>= λ r. Ok (Whole r)) (or_else (err_at bytes >>= λ r. Ok (Whole r))
+    (or_else (count_at bytes >>= λ n. Ok (Columns n)) (switch_at bytes >>= λ r. Ok (Whole r))))
 
 -- a payload behind the definitions of so many columns: the end of the rows, or a row
 unfoldable pub row_or_end : ℕ → List ℕ → Result RowPayload ℕ

@@ -1,6 +1,6 @@
 -- What a server answers: Generic Response Packets, Protocol::AuthSwitchRequest, COM_QUERY Response and Text Resultset.
-use Rattle.std.specs.Prelude.{◌≡◌, ℕ, ◌+◌, ◌<◌, ◌≤◌, List, [], ◌∷◌, ◌++◌, length, map, Option, Some, None, codes}
-use Rattle.std.specs.List.{flat_map, AllByRecursion}
+use Rattle.std.specs.Prelude.{◌≡◌, ℕ, ◌<◌, ◌≤◌, List, [], ◌∷◌, ◌++◌, length, map, Option, Some, None, codes}
+use Rattle.std.specs.List.{AllByRecursion}
 use Rattle.byteorder.specs.Endian.{little_bytes}
 use Rattle.my_wire.specs.Grammar.{◌▷◌, IsEnd, IsExactly}
 use Rattle.my_wire.specs.Lenenc.{lenenc}
@@ -35,8 +35,8 @@ IsColumnCount n bytes = IsNumber n bytes × (0 < n)
 -- Protocol::ColumnDefinition41: catalog, schema, table, org_table, name, org_name, the length of what follows, character set, column length, type, flags, decimals, filler
 abbrev pub IsDefinition : Column → List ℕ → Type 0
 IsDefinition c =
-  IsText (codes "def") ▷ IsText c.schema ▷ IsText c.table ▷ IsText c.org_table ▷ IsText c.name ▷ IsText c.org_name
-  ▷ IsExactly (0x0C ∷ []) ▷ IsInt 2 c.charset ▷ IsInt 4 c.length ▷ IsInt 1 c.kind ▷ IsInt 2 c.flags ▷ IsExactly (0 ∷ 0 ∷ 0 ∷ []) ▷ IsEnd
+    IsText (codes "def") ▷ IsText c.schema ▷ IsText c.table ▷ IsText c.org_table ▷ IsText c.name ▷ IsText c.org_name
+    ▷ IsExactly (0x0C ∷ []) ▷ IsInt 2 c.charset ▷ IsInt 4 c.length ▷ IsInt 1 c.kind ▷ IsInt 2 c.flags ▷ IsExactly (0 ∷ 0 ∷ 0 ∷ []) ▷ IsEnd
 
 -- ProtocolText::ResultsetRow, one value: `FB` for NULL, else a text
 abbrev pub IsCell : Option (List ℕ) → List ℕ → Type 0

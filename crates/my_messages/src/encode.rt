@@ -132,7 +132,12 @@ fn ok_payload(alloc: Global, affected: u64, status: u16, warnings: u16) -> Resul
 }
 
 /// The payload of an ERR.
-fn err_payload(alloc: Global, number: u16, state: &[u8; 5], message: &Text) -> Result<Bytes, AllocError>
+fn err_payload(
+    alloc: Global,
+    number: u16,
+    state: &[u8; 5],
+    message: &Text,
+) -> Result<Bytes, AllocError>
     ensures { IfOk result (λ bytes. bytes ≡ err_bytes number state.now message.now) }
 {
     let mut payload = Bytes::new(alloc);
@@ -193,15 +198,27 @@ pub fn encode_reply(alloc: Global, reply: &Reply, seq: u8, caps: u32) -> Result<
 {
     let _caps = caps;
     match reply {
-        Reply::Ok { affected, status, warnings } => {
-            one_packet(alloc, seq, &ok_payload(alloc, *affected, *status, *warnings)?)
+        Reply::Ok {
+            affected,
+            status,
+            warnings,
+        } => {
+            one_packet(
+                alloc,
+                seq,
+                &ok_payload(alloc, *affected, *status, *warnings)?,
+            )
         }
-        Reply::Err { number, state, message } => {
-            one_packet(alloc, seq, &err_payload(alloc, *number, state, message)?)
-        }
-        Reply::Rows { columns, rows, status } => {
-            resultset(alloc, seq, columns.as_slice(), rows.as_slice(), *status)
-        }
+        Reply::Err {
+            number,
+            state,
+            message,
+        } => { one_packet(alloc, seq, &err_payload(alloc, *number, state, message)?) }
+        Reply::Rows {
+            columns,
+            rows,
+            status,
+        } => { resultset(alloc, seq, columns.as_slice(), rows.as_slice(), *status) }
         Reply::Switch { plugin, nonce } => {
             one_packet(alloc, seq, &switch_payload(alloc, plugin, nonce)?)
         }

@@ -22,3 +22,6 @@ pub use fault::MessageFault;
 pub use list_types::Text;
 pub use reply::{Cell, CellRow, CellRows, Column, Columns, Reply};
 pub use reply_reader::ReplyReader;
+
+#[cfg(test)]
+mod tests;

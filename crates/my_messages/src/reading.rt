@@ -58,7 +58,14 @@ pub(crate) fn ok_packet(bytes: &[u8]) -> Result<Reply, BadBytes>
     let rest = zero(rest)?;
     let (status, rest) = u16_at(rest)?;
     let (warnings, rest) = u16_at(rest)?;
-    end(Reply::Ok { affected, status, warnings }, rest)
+    end(
+        Reply::Ok {
+            affected,
+            status,
+            warnings,
+        },
+        rest,
+    )
 }
 
 /// An ERR.
@@ -73,7 +80,11 @@ pub(crate) fn err_packet(alloc: Global, bytes: &[u8]) -> Result<Reply, ReadFault
     let mut state = [0u8; 5];
     state.copy_from_slice(front);
     let message = whole_text(alloc, rest)?;
-    Ok(Reply::Err { number, state, message })
+    Ok(Reply::Err {
+        number,
+        state,
+        message,
+    })
 }
 
 /// A request to log in by another plugin.

@@ -2,11 +2,10 @@
 ghost use Rattle.std.specs.Prelude.{◌≡◌};
 ghost use Rattle.my_messages.specs.Reading.{Gives, cell_at, cells_at};
 
-use crate::fault::ReadFault;
+use crate::fault::{BadBytes, ReadFault};
 use crate::reading::end;
 use crate::utf8::text;
 use crate::{Cell, CellRow};
-use crate::fault::BadBytes;
 use list_types::Listed;
 use std::alloc::Global;
 

@@ -1,6 +1,6 @@
 -- Reading from left to right finds the one value that bytes spell, and else the first bad byte.
-use Rattle.std.proofs.Common.{◌≡◌, ℕ, zero, suc, ◌+◌, ◌-◌, ◌<◌, List, [], ◌∷◌, ◌++◌, length, Result, Ok, Err, refl, sym, ap, subst, ◌∙◌, append_assoc, arith, inl, inr, ◌⊎◌}
-use Rattle.std.proofs.lemmas.List.{append-nil, append_cancel_left, length-append}
+use Rattle.std.proofs.Common.{◌≡◌, ℕ, ◌-◌, List, [], ◌∷◌, ◌++◌, length, Result, Ok, Err, refl, sym, ap, subst, ◌∙◌, append_assoc, arith, inl, inr, ◌⊎◌}
+use Rattle.std.proofs.lemmas.List.{append_cancel_left, length-append}
 use Rattle.my_wire.specs.Grammar.{IsBytes, Then, Begins, FirstBad, ◌>>=◌}
 
 -- ---- bytes
@@ -27,8 +27,8 @@ fronts_meet (x ∷ p) q (y ∷ f) r e =
     let heads : x ≡ y = cc in
     let tails : p ++ q ≡ f ++ r = cc in
     elim (fronts_meet p q f r tails) [
-      inl m ↦ inl (m.0, subst (λ z. y ∷ f ≡ z ∷ (p ++ m.0)) (sym heads) (ap (λ (l : List ℕ). y ∷ l) m.1))
-    | inr m ↦ inr (m.0, subst (λ z. x ∷ p ≡ z ∷ (f ++ m.0)) heads (ap (λ (l : List ℕ). x ∷ l) m.1))
+      | inl m ↦ inl (m.0, subst (λ z. y ∷ f ≡ z ∷ (p ++ m.0)) (sym heads) (ap (λ (l : List ℕ). y ∷ l) m.1))
+      | inr m ↦ inr (m.0, subst (λ z. x ∷ p ≡ z ∷ (f ++ m.0)) heads (ap (λ (l : List ℕ). x ∷ l) m.1))
     ]
 
 -- ---- reading
@@ -88,7 +88,7 @@ stuck_first : {X Y : Type 0} (First : X → List ℕ → Type 0) (first : List �
 stuck_first {X} {Y} First first Second field some bytes left fits e =
     let s = field.stuck bytes left fits e in
     let no_front : (front rest : List ℕ) (x : X) → bytes ≡ front ++ rest → First x front → ⊥ =
-        λ front rest x whole h. let g : first bytes ≡ Ok (x, rest) = ap first whole ∙ field.again front rest x h in let f : first bytes ≡ Err left = e in cc in
+    λ front rest x whole h. let g : first bytes ≡ Ok (x, rest) = ap first whole ∙ field.again front rest x h in let f : first bytes ≡ Err left = e in cc in
     record {
       before = s.before;
       after = s.after;
@@ -98,14 +98,14 @@ stuck_first {X} {Y} First first Second field some bytes left fits e =
       bad = λ b more next begun.
           let t = begun.spells.1 in
           elim (fronts_meet (s.before ++ b ∷ []) begun.more t.front t.rest t.whole) [
-            inl m ↦
-              let goes_on : begun.more ≡ m.0 ++ t.rest =
-                  append_cancel_left (s.before ++ b ∷ []) begun.more (m.0 ++ t.rest) (t.whole ∙ ap (λ (l : List ℕ). l ++ t.rest) m.1 ∙ append_assoc (s.before ++ b ∷ []) m.0 t.rest) in
-              s.bad b more next (record { value = begun.spells.0; more = m.0; are_bytes = IsBytes-front m.0 t.rest (subst IsBytes goes_on begun.are_bytes); spells = subst (First begun.spells.0) m.1 t.first })
-          | inr m ↦
-              let whole : bytes ≡ t.front ++ (m.0 ++ more) =
-                  s.split ∙ ap (λ (l : List ℕ). s.before ++ l) next ∙ sym (append_assoc s.before (b ∷ []) more) ∙ ap (λ (l : List ℕ). l ++ more) m.1 ∙ append_assoc t.front m.0 more in
-              no_front t.front (m.0 ++ more) begun.spells.0 whole t.first
+            | inl m ↦
+                let goes_on : begun.more ≡ m.0 ++ t.rest =
+                append_cancel_left (s.before ++ b ∷ []) begun.more (m.0 ++ t.rest) (t.whole ∙ ap (λ (l : List ℕ). l ++ t.rest) m.1 ∙ append_assoc (s.before ++ b ∷ []) m.0 t.rest) in
+                s.bad b more next (record { value = begun.spells.0; more = m.0; are_bytes = IsBytes-front m.0 t.rest (subst IsBytes goes_on begun.are_bytes); spells = subst (First begun.spells.0) m.1 t.first })
+            | inr m ↦
+                let whole : bytes ≡ t.front ++ (m.0 ++ more) =
+                s.split ∙ ap (λ (l : List ℕ). s.before ++ l) next ∙ sym (append_assoc s.before (b ∷ []) more) ∙ ap (λ (l : List ℕ). l ++ more) m.1 ∙ append_assoc t.front m.0 more in
+                no_front t.front (m.0 ++ more) begun.spells.0 whole t.first
           ];
     }
 
@@ -129,9 +129,9 @@ stuck_second {X} {Y} First first Second field bytes left x rest e s =
           let u = begun.spells.1 in
           let after_b : List ℕ = (s.before ++ b ∷ []) ++ begun.more in
           let regrouped : t.0 ++ after_b ≡ u.front ++ u.rest =
-              sym (append_assoc t.0 (s.before ++ b ∷ []) begun.more) ∙ ap (λ (l : List ℕ). l ++ begun.more) (sym (append_assoc t.0 s.before (b ∷ []))) ∙ u.whole in
+          sym (append_assoc t.0 (s.before ++ b ∷ []) begun.more) ∙ ap (λ (l : List ℕ). l ++ begun.more) (sym (append_assoc t.0 s.before (b ∷ []))) ∙ u.whole in
           let same : (x, after_b) ≡ (begun.spells.0, u.rest) =
-              ok_is (x, after_b) (begun.spells.0, u.rest) (sym (field.again t.0 after_b x t.2) ∙ ap first regrouped ∙ field.again u.front u.rest begun.spells.0 u.first) in
+          ok_is (x, after_b) (begun.spells.0, u.rest) (sym (field.again t.0 after_b x t.2) ∙ ap first regrouped ∙ field.again u.front u.rest begun.spells.0 u.first) in
           s.bad b more next (record { value = begun.value; more = begun.more; are_bytes = begun.are_bytes; spells = subst (λ (p : X × List ℕ). Second p.0 begun.value p.1) (sym same) u.second });
     }
 
@@ -154,8 +154,8 @@ field_then {X} {Y} First first Second second field message = record {
       ∙ (message h.0).again t.rest y t.second;
   stuck = λ bytes left fits e.
       elim (bind_err (first bytes) (λ p. second p.0 p.1) left e) [
-        inl f ↦ stuck_first First first Second field (λ x. (message x).some) bytes left fits f
-      | inr s ↦ stuck_second First first Second field bytes left s.0.0 s.0.1 s.1 ((message s.0.0).stuck s.0.1 left (rest_is First first field bytes s.0.0 s.0.1 fits s.1) s.2)
+        | inl f ↦ stuck_first First first Second field (λ x. (message x).some) bytes left fits f
+        | inr s ↦ stuck_second First first Second field bytes left s.0.0 s.0.1 s.1 ((message s.0.0).stuck s.0.1 left (rest_is First first field bytes s.0.0 s.0.1 fits s.1) s.2)
       ];
   some = then_begins First Second (λ x. (message x).some) [] field.some;
 }
@@ -176,8 +176,8 @@ field_field {X} {Y} First first Second second field other = record {
       ∙ (other h.0).again t.rest rest y t.second;
   stuck = λ bytes left fits e.
       elim (bind_err (first bytes) (λ p. second p.0 p.1) left e) [
-        inl f ↦ stuck_first First first Second field (λ x. (other x).some) bytes left fits f
-      | inr s ↦ stuck_second First first Second field bytes left s.0.0 s.0.1 s.1 ((other s.0.0).stuck s.0.1 left (rest_is First first field bytes s.0.0 s.0.1 fits s.1) s.2)
+        | inl f ↦ stuck_first First first Second field (λ x. (other x).some) bytes left fits f
+        | inr s ↦ stuck_second First first Second field bytes left s.0.0 s.0.1 s.1 ((other s.0.0).stuck s.0.1 left (rest_is First first field bytes s.0.0 s.0.1 fits s.1) s.2)
       ];
   some = then_begins First Second (λ x. (other x).some) [] field.some;
 }
@@ -223,8 +223,8 @@ message_as {X} {Y} f P read m = record {
   again = λ bytes y h. ap (λ r. r >>= λ x. Ok (f x)) (m.again bytes h.0 h.2) ∙ ap (λ z. Ok z) (sym h.1);
   stuck = λ bytes left fits e.
       elim (bind_err (read bytes) (λ x. Ok (f x)) left e) [
-        inl g ↦ same_stuck P (λ (y : Y) (b : List ℕ). (x : X) × (y ≡ f x) × P x b) (λ x b p. (f x, (x, refl, p))) (λ y b h. (h.0, h.2)) bytes left (m.stuck bytes left fits g)
-      | inr h ↦ absurd (let g : Ok (f h.0) ≡ Err left = h.2 in cc)
+        | inl g ↦ same_stuck P (λ (y : Y) (b : List ℕ). (x : X) × (y ≡ f x) × P x b) (λ x b p. (f x, (x, refl, p))) (λ y b h. (h.0, h.2)) bytes left (m.stuck bytes left fits g)
+        | inr h ↦ absurd (let g : Ok (f h.0) ≡ Err left = h.2 in cc)
       ];
   some = let s = m.some in record { value = f s.value; more = s.more; are_bytes = s.are_bytes; spells = (s.value, refl, s.spells) };
 }

@@ -1,6 +1,6 @@
 -- A length-encoded number is read in each of its forms, and in no other.
-use Rattle.std.proofs.Common.{◌≡◌, ℕ, zero, suc, ◌+◌, ◌-◌, ◌*◌, ◌^◌, ◌<◌, ◌≤◌, ◌⊎◌, Bool, true, false, cond, nat_lt, ◌==◌, List, [], ◌∷◌, ◌++◌, length, take, drop, replicate, slice_index, Option, Some, None, refl, sym, ap, subst, ◌∙◌, append_assoc, inl, inr, arith, lt-ltb, le-ltb, eq-eqb, ne_eqb}
-use Rattle.std.proofs.lemmas.Bool.{cases_lt, ltb-true, ltb-false, eqb-true, eqb-false}
+use Rattle.std.proofs.Common.{◌≡◌, ℕ, zero, suc, ◌+◌, ◌-◌, ◌*◌, ◌^◌, ◌<◌, ◌≤◌, ◌⊎◌, Bool, true, false, cond, nat_lt, ◌==◌, List, [], ◌∷◌, ◌++◌, length, take, replicate, slice_index, Option, Some, None, refl, sym, ap, subst, ◌∙◌, append_assoc, inl, inr, arith, lt-ltb, le-ltb, ne_eqb}
+use Rattle.std.proofs.lemmas.Bool.{cases_lt, ltb-true, ltb-false, eqb-true}
 use Rattle.std.proofs.lemmas.List.{length-append, length-take, length-replicate, append-nil}
 use Rattle.byteorder.specs.Endian.{little_from, little_number, little_bytes}
 use Rattle.byteorder.specs.Numbers.{little_from-cons, little_from-take, little_from-append, little_number-reads_back, length-bytes_low_first, little_from-lt}
@@ -25,12 +25,12 @@ pub record HasWidth (first w : ℕ) : Type 0 where
 pub has_width : (first w : ℕ) → width_of first ≡ Some w → HasWidth first w
 has_width first w e =
     elim (chosen (first == 0xFC) (Some 2) (cond (first == 0xFD) (Some 3) (cond (first == 0xFE) (Some 8) None)) (Some w) e) [
-      inl h ↦ let f = eqb-true first 0xFC h.0 in let g : 2 ≡ w = (let k : Some 2 ≡ Some w = h.1 in cc) in record { big = omega arith; small = omega arith; some = omega arith; few = omega arith }
-    | inr h ↦ elim (chosen (first == 0xFD) (Some 3) (cond (first == 0xFE) (Some 8) None) (Some w) h.1) [
-        inl i ↦ let f = eqb-true first 0xFD i.0 in let g : 3 ≡ w = (let k : Some 3 ≡ Some w = i.1 in cc) in record { big = omega arith; small = omega arith; some = omega arith; few = omega arith }
-      | inr i ↦ elim (chosen (first == 0xFE) (Some 8) None (Some w) i.1) [
-          inl j ↦ let f = eqb-true first 0xFE j.0 in let g : 8 ≡ w = (let k : Some 8 ≡ Some w = j.1 in cc) in record { big = omega arith; small = omega arith; some = omega arith; few = omega arith }
-        | inr j ↦ absurd (let k : None ≡ Some w = j.1 in cc)
+      | inl h ↦ let f = eqb-true first 0xFC h.0 in let g : 2 ≡ w = (let k : Some 2 ≡ Some w = h.1 in cc) in record { big = omega arith; small = omega arith; some = omega arith; few = omega arith }
+      | inr h ↦ elim (chosen (first == 0xFD) (Some 3) (cond (first == 0xFE) (Some 8) None) (Some w) h.1) [
+        | inl i ↦ let f = eqb-true first 0xFD i.0 in let g : 3 ≡ w = (let k : Some 3 ≡ Some w = i.1 in cc) in record { big = omega arith; small = omega arith; some = omega arith; few = omega arith }
+        | inr i ↦ elim (chosen (first == 0xFE) (Some 8) None (Some w) i.1) [
+          | inl j ↦ let f = eqb-true first 0xFE j.0 in let g : 8 ≡ w = (let k : Some 8 ≡ Some w = j.1 in cc) in record { big = omega arith; small = omega arith; some = omega arith; few = omega arith }
+          | inr j ↦ absurd (let k : None ≡ Some w = j.1 in cc)
         ]
       ]
     ]
@@ -39,8 +39,8 @@ wide_found : (o : Option ℕ) (more : List ℕ) (v u : ℕ) → wide_at o more �
 wide_found None more v u e = absurd cc
 wide_found (Some w) more v u e =
     elim (chosen (nat_lt (length more) w) Short (Number (little_number w more) (w + 1)) (Number v u) e) [
-      inl h ↦ absurd (let k : Short ≡ Number v u = h.1 in cc)
-    | inr h ↦ let k : Number (little_number w more) (w + 1) ≡ Number v u = h.1 in (w, refl, ltb-false (length more) w h.0, cc, cc)
+      | inl h ↦ absurd (let k : Short ≡ Number v u = h.1 in cc)
+      | inr h ↦ let k : Number (little_number w more) (w + 1) ≡ Number v u = h.1 in (w, refl, ltb-false (length more) w h.0, cc, cc)
     ]
 
 -- ---- what is read is in the grammar
@@ -49,24 +49,23 @@ pub lenenc_found : (bytes : List ℕ) (v u : ℕ) → lenenc_at bytes ≡ Number
 lenenc_found [] v u e = absurd cc
 lenenc_found (first ∷ more) v u e =
     elim (chosen (nat_lt first 251) (Number first 1) (cond (first == 0xFB) Null (wide_at (width_of first) more)) (Number v u) e) [
-      inl h ↦
-        let k : Number first 1 ≡ Number v u = h.1 in
-        let value : first ≡ v = cc in
-        let used : 1 ≡ u = cc in
-        let lt = ltb-true first 251 h.0 in
-        (omega (arith, used), subst (λ (n : ℕ). IsLenenc (take n (first ∷ more)) v) used (inl (lt, refl, sym value)))
-    | inr h ↦ elim (chosen (first == 0xFB) Null (wide_at (width_of first) more) (Number v u) h.1) [
-        inl i ↦ absurd (let k : Null ≡ Number v u = i.1 in cc)
-      | inr i ↦
-          let w = wide_found (width_of first) more v u i.1 in
-          let sized : length (take w.0 more) ≡ w.0 = let le = w.2 in omega (arith, length-take w.0 more) in
-          let value : v ≡ little_number (length (take w.0 more)) (take w.0 more) =
-              sym w.3 ∙ sym (little_from-take 0 w.0 w.0 more (omega arith)) ∙ ap (λ (n : ℕ). little_number n (take w.0 more)) (sym sized) in
-          let used : suc w.0 ≡ u = let g = w.4 in omega (arith, g) in
-          (
-            let le = w.2 in omega (arith, used),
-            subst (λ (n : ℕ). IsLenenc (take n (first ∷ more)) v) used (inr (w.1 ∙ ap (λ (n : ℕ). Some n) (sym sized), value)),
-          )
+      | inl h ↦
+          let k : Number first 1 ≡ Number v u = h.1 in
+          let value : first ≡ v = cc in
+          let used : 1 ≡ u = cc in
+          let lt = ltb-true first 251 h.0 in
+          (omega (arith, used), subst (λ (n : ℕ). IsLenenc (take n (first ∷ more)) v) used (inl (lt, refl, sym value)))
+      | inr h ↦ elim (chosen (first == 0xFB) Null (wide_at (width_of first) more) (Number v u) h.1) [
+        | inl i ↦ absurd (let k : Null ≡ Number v u = i.1 in cc)
+        | inr i ↦
+            let w = wide_found (width_of first) more v u i.1 in
+            let sized : length (take w.0 more) ≡ w.0 = let le = w.2 in omega (arith, length-take w.0 more) in
+            let value : v ≡ little_number (length (take w.0 more)) (take w.0 more) =
+            sym w.3 ∙ sym (little_from-take 0 w.0 w.0 more (omega arith)) ∙ ap (λ (n : ℕ). little_number n (take w.0 more)) (sym sized) in
+            let used : suc w.0 ≡ u = let g = w.4 in omega (arith, g) in (
+              let le = w.2 in omega (arith, used),
+              subst (λ (n : ℕ). IsLenenc (take n (first ∷ more)) v) used (inr (w.1 ∙ ap (λ (n : ℕ). Some n) (sym sized), value)),
+            )
       ]
     ]
 
@@ -136,25 +135,25 @@ wide_short : (o : Option ℕ) (more : List ℕ) → wide_at o more ≡ Short →
 wide_short None more e = absurd cc
 wide_short (Some w) more e =
     elim (chosen (nat_lt (length more) w) Short (Number (little_number w more) (w + 1)) Short e) [
-      inl h ↦ (w, refl, ltb-true (length more) w h.0)
-    | inr h ↦ absurd (let k : Number (little_number w more) (w + 1) ≡ Short = h.1 in cc)
+      | inl h ↦ (w, refl, ltb-true (length more) w h.0)
+      | inr h ↦ absurd (let k : Number (little_number w more) (w + 1) ≡ Short = h.1 in cc)
     ]
 
 wide_never : {r : Lenenc} (w : ℕ) (more : List ℕ) → wide_at (Some w) more ≡ r → (r ≡ Null) ⊎ (r ≡ Bad) → ⊥
 wide_never {r} w more e h =
     elim (chosen (nat_lt (length more) w) Short (Number (little_number w more) (w + 1)) r e) [
-      inl i ↦ elim h [ inl f ↦ (let g : Short ≡ Null = i.1 ∙ f in cc) | inr f ↦ (let g : Short ≡ Bad = i.1 ∙ f in cc) ]
-    | inr i ↦ elim h [ inl f ↦ (let g : Number (little_number w more) (w + 1) ≡ Null = i.1 ∙ f in cc) | inr f ↦ (let g : Number (little_number w more) (w + 1) ≡ Bad = i.1 ∙ f in cc) ]
+      | inl i ↦ elim h [ inl f ↦ (let g : Short ≡ Null = i.1 ∙ f in cc) | inr f ↦ (let g : Short ≡ Bad = i.1 ∙ f in cc) ]
+      | inr i ↦ elim h [ inl f ↦ (let g : Number (little_number w more) (w + 1) ≡ Null = i.1 ∙ f in cc) | inr f ↦ (let g : Number (little_number w more) (w + 1) ≡ Bad = i.1 ∙ f in cc) ]
     ]
 
 pub lenenc_short : (bytes : List ℕ) → lenenc_at bytes ≡ Short → Begins (λ (n : ℕ) (bytes : List ℕ). IsLenenc bytes n × (0 < n)) bytes
 lenenc_short [] e = one_positive
 lenenc_short (first ∷ more) e =
     elim (chosen (nat_lt first 251) (Number first 1) (cond (first == 0xFB) Null (wide_at (width_of first) more)) Short e) [
-      inl h ↦ absurd (let k : Number first 1 ≡ Short = h.1 in cc)
-    | inr h ↦ elim (chosen (first == 0xFB) Null (wide_at (width_of first) more) Short h.1) [
-        inl i ↦ absurd (let k : Null ≡ Short = i.1 in cc)
-      | inr i ↦ let w = wide_short (width_of first) more i.1 in wide_positive first w.0 more w.1 w.2
+      | inl h ↦ absurd (let k : Number first 1 ≡ Short = h.1 in cc)
+      | inr h ↦ elim (chosen (first == 0xFB) Null (wide_at (width_of first) more) Short h.1) [
+        | inl i ↦ absurd (let k : Null ≡ Short = i.1 in cc)
+        | inr i ↦ let w = wide_short (width_of first) more i.1 in wide_positive first w.0 more w.1 w.2
       ]
     ]
 
@@ -163,10 +162,10 @@ pub no_number : (bytes : List ℕ) → (lenenc_at bytes ≡ Null) ⊎ (lenenc_at
 no_number bytes e b more is n rest h =
     let at : lenenc_at (b ∷ more) ≡ lenenc_at bytes = ap lenenc_at (sym is) in
     elim h [
-      inl i ↦
-        let k : lenenc_at (b ∷ more) ≡ Number b 1 = ap (λ (c : Bool). cond c (Number b 1) (cond (b == 0xFB) Null (wide_at (width_of b) more))) (lt-ltb b 251 i.0) in
-        elim e [ inl f ↦ (let g : Number b 1 ≡ Null = sym k ∙ at ∙ f in cc) | inr f ↦ (let g : Number b 1 ≡ Bad = sym k ∙ at ∙ f in cc) ]
-    | inr i ↦ wide_never (length rest) more (sym (lenenc_wide b (length rest) more i.0) ∙ at) e
+      | inl i ↦
+          let k : lenenc_at (b ∷ more) ≡ Number b 1 = ap (λ (c : Bool). cond c (Number b 1) (cond (b == 0xFB) Null (wide_at (width_of b) more))) (lt-ltb b 251 i.0) in
+          elim e [ inl f ↦ (let g : Number b 1 ≡ Null = sym k ∙ at ∙ f in cc) | inr f ↦ (let g : Number b 1 ≡ Bad = sym k ∙ at ∙ f in cc) ]
+      | inr i ↦ wide_never (length rest) more (sym (lenenc_wide b (length rest) more i.0) ∙ at) e
     ]
 
 -- ---- the shortest form
@@ -203,12 +202,12 @@ wide_form first w n e lt =
 pub lenenc_form : (n : ℕ) → n < 2 ^ 64 → IsLenenc (lenenc n) n
 lenenc_form n lt =
     elim (cases_lt n 251) [
-      inl a ↦ subst (λ (l : List ℕ). IsLenenc l n) (sym (form_of_one n a)) (inl (a, refl, refl))
-    | inr a ↦ elim (cases_lt n (2 ^ 16)) [
-        inl b ↦ subst (λ (l : List ℕ). IsLenenc l n) (sym (form_of_two n a b)) (wide_form 0xFC 2 n refl (omega arith))
-      | inr b ↦ elim (cases_lt n (2 ^ 24)) [
-          inl c ↦ subst (λ (l : List ℕ). IsLenenc l n) (sym (form_of_three n b c)) (wide_form 0xFD 3 n refl (omega arith))
-        | inr c ↦ subst (λ (l : List ℕ). IsLenenc l n) (sym (form_of_eight n c)) (wide_form 0xFE 8 n refl (omega arith))
+      | inl a ↦ subst (λ (l : List ℕ). IsLenenc l n) (sym (form_of_one n a)) (inl (a, refl, refl))
+      | inr a ↦ elim (cases_lt n (2 ^ 16)) [
+        | inl b ↦ subst (λ (l : List ℕ). IsLenenc l n) (sym (form_of_two n a b)) (wide_form 0xFC 2 n refl (omega arith))
+        | inr b ↦ elim (cases_lt n (2 ^ 24)) [
+          | inl c ↦ subst (λ (l : List ℕ). IsLenenc l n) (sym (form_of_three n b c)) (wide_form 0xFD 3 n refl (omega arith))
+          | inr c ↦ subst (λ (l : List ℕ). IsLenenc l n) (sym (form_of_eight n c)) (wide_form 0xFE 8 n refl (omega arith))
         ]
       ]
     ]
@@ -233,10 +232,10 @@ written n = elim (cases_lt n (2 ^ 24)) [ inl a ↦ omega (arith, written_three n
 width_is : (first w : ℕ) → width_of first ≡ Some w → (w ≡ 2) ⊎ ((w ≡ 3) ⊎ (w ≡ 8))
 width_is first w e =
     elim (chosen (first == 0xFC) (Some 2) (cond (first == 0xFD) (Some 3) (cond (first == 0xFE) (Some 8) None)) (Some w) e) [
-      inl h ↦ inl (let k : Some 2 ≡ Some w = h.1 in cc)
-    | inr h ↦ elim (chosen (first == 0xFD) (Some 3) (cond (first == 0xFE) (Some 8) None) (Some w) h.1) [
-        inl i ↦ inr (inl (let k : Some 3 ≡ Some w = i.1 in cc))
-      | inr i ↦ elim (chosen (first == 0xFE) (Some 8) None (Some w) i.1) [ inl j ↦ inr (inr (let k : Some 8 ≡ Some w = j.1 in cc)) | inr j ↦ absurd (let k : None ≡ Some w = j.1 in cc) ]
+      | inl h ↦ inl (let k : Some 2 ≡ Some w = h.1 in cc)
+      | inr h ↦ elim (chosen (first == 0xFD) (Some 3) (cond (first == 0xFE) (Some 8) None) (Some w) h.1) [
+        | inl i ↦ inr (inl (let k : Some 3 ≡ Some w = i.1 in cc))
+        | inr i ↦ elim (chosen (first == 0xFE) (Some 8) None (Some w) i.1) [ inl j ↦ inr (inr (let k : Some 8 ≡ Some w = j.1 in cc)) | inr j ↦ absurd (let k : None ≡ Some w = j.1 in cc) ]
       ]
     ]
 
@@ -248,6 +247,6 @@ lenenc_shortest n (first ∷ more) fits (inr h) =
     let value = h.1 in
     let bound : (w : ℕ) → length more ≡ w → n < 256 ^ w = λ w e. subst (λ (k : ℕ). n < 256 ^ k) e (subst (λ (m : ℕ). m < 256 ^ length more) (sym value) (little_from-lt 0 (length more) more (index_fits more fits.1))) in
     elim (width_is first (length more) h.0) [
-      inl w ↦ let b = bound 2 w in omega (arith, written_two n (omega arith))
-    | inr r ↦ elim r [ inl w ↦ let b = bound 3 w in omega (arith, written_three n (omega arith)) | inr w ↦ omega (arith, written n) ]
+      | inl w ↦ let b = bound 2 w in omega (arith, written_two n (omega arith))
+      | inr r ↦ elim r [ inl w ↦ let b = bound 3 w in omega (arith, written_three n (omega arith)) | inr w ↦ omega (arith, written n) ]
     ]

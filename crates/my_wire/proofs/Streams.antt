@@ -1,13 +1,13 @@
 -- A stream is packets in one way, and a reader finds them.
-use Rattle.std.proofs.Common.{◌≡◌, ◌≢◌, ℕ, zero, suc, ◌+◌, ◌-◌, ◌*◌, ◌/◌, ◌%◌, ◌^◌, ◌<◌, ◌≤◌, ◌⊎◌, Bool, true, false, cond, nat_lt, ◌==◌, List, [], ◌∷◌, ◌++◌, length, take, drop, refl, sym, ap, subst, ◌∙◌, append_assoc, inl, inr, arith, lt-ltb, le-ltb, eq-eqb, ne_eqb}
-use Rattle.std.proofs.lemmas.Bool.{cases_lt, cases_eq, ltb-true, ltb-false, eqb-true, eqb-false}
+use Rattle.std.proofs.Common.{◌≡◌, ◌≢◌, ℕ, ◌+◌, ◌*◌, ◌/◌, ◌%◌, ◌^◌, ◌<◌, ◌≤◌, ◌⊎◌, Bool, false, cond, nat_lt, ◌==◌, List, [], ◌∷◌, ◌++◌, length, take, drop, refl, sym, ap, subst, ◌∙◌, append_assoc, inl, inr, arith, lt-ltb, le-ltb, eq-eqb, ne_eqb}
+use Rattle.std.proofs.lemmas.Bool.{ltb-true, ltb-false, eqb-true, eqb-false}
 use Rattle.std.proofs.lemmas.List.{length-append, length-take, take_at, drop_at, take-append-drop, append-nil}
 use Rattle.byteorder.specs.Endian.{little_number, little_bytes}
 use Rattle.byteorder.specs.Numbers.{little_number-reads_back}
 use Rattle.my_wire.specs.declared.packet.WireFault.{WireFault}
 use Rattle.my_wire.specs.declared.packet.WireFault.TheVariants.{TooLarge, OutOfOrder, NoMemory}
 use Rattle.my_wire.specs.Grammar.{IsBytes}
-use Rattle.my_wire.specs.Packets.{most, next, packet, packets, next_after, Found, Wanting, Whole, Refused, headed, first_packet, IsRefused, AllFit, HasGiven, Splits, Stream, given, with_held}
+use Rattle.my_wire.specs.Packets.{most, next, packet, packets, next_after, Wanting, Whole, Refused, headed, first_packet, IsRefused, AllFit, HasGiven, Splits, Stream, given, with_held}
 use Rattle.my_wire.proofs.Fields.{IsBytes-append, IsBytes-rest}
 use Rattle.my_wire.proofs.Lenencs.{chosen}
 
@@ -28,22 +28,21 @@ headed_whole : (expected n seq : ℕ) (more payload rest : List ℕ) → headed 
     → (n ≤ most) × (seq ≡ expected) × (length payload ≡ n) × (more ≡ payload ++ rest)
 headed_whole expected n seq more payload rest e =
     elim (chosen (nat_lt most n) (Refused (TooLarge n)) (cond (seq == expected) (cond (nat_lt (length more) n) Wanting (Whole (take n more) (drop n more))) (Refused (OutOfOrder expected seq))) (Whole payload rest) e) [
-      inl h ↦ absurd (let k : Refused (TooLarge n) ≡ Whole payload rest = h.1 in cc)
-    | inr h ↦ elim (chosen (seq == expected) (cond (nat_lt (length more) n) Wanting (Whole (take n more) (drop n more))) (Refused (OutOfOrder expected seq)) (Whole payload rest) h.1) [
-        inr i ↦ absurd (let k : Refused (OutOfOrder expected seq) ≡ Whole payload rest = i.1 in cc)
-      | inl i ↦ elim (chosen (nat_lt (length more) n) Wanting (Whole (take n more) (drop n more)) (Whole payload rest) i.1) [
-          inl j ↦ absurd (let k : Wanting ≡ Whole payload rest = j.1 in cc)
-        | inr j ↦
-            let k : Whole (take n more) (drop n more) ≡ Whole payload rest = j.1 in
-            let front : take n more ≡ payload = cc in
-            let after : drop n more ≡ rest = cc in
-            let long = ltb-false (length more) n j.0 in
-            (
-              ltb-false most n h.0,
-              eqb-true seq expected i.0,
-              sym (ap length front) ∙ (let l = length-take n more in omega arith),
-              sym (take-append-drop n more) ∙ ap (λ (l : List ℕ). l ++ drop n more) front ∙ ap (λ (l : List ℕ). payload ++ l) after,
-            )
+      | inl h ↦ absurd (let k : Refused (TooLarge n) ≡ Whole payload rest = h.1 in cc)
+      | inr h ↦ elim (chosen (seq == expected) (cond (nat_lt (length more) n) Wanting (Whole (take n more) (drop n more))) (Refused (OutOfOrder expected seq)) (Whole payload rest) h.1) [
+        | inr i ↦ absurd (let k : Refused (OutOfOrder expected seq) ≡ Whole payload rest = i.1 in cc)
+        | inl i ↦ elim (chosen (nat_lt (length more) n) Wanting (Whole (take n more) (drop n more)) (Whole payload rest) i.1) [
+          | inl j ↦ absurd (let k : Wanting ≡ Whole payload rest = j.1 in cc)
+          | inr j ↦
+              let k : Whole (take n more) (drop n more) ≡ Whole payload rest = j.1 in
+              let front : take n more ≡ payload = cc in
+              let after : drop n more ≡ rest = cc in
+              let long = ltb-false (length more) n j.0 in (
+                ltb-false most n h.0,
+                eqb-true seq expected i.0,
+                sym (ap length front) ∙ (let l = length-take n more in omega arith),
+                sym (take-append-drop n more) ∙ ap (λ (l : List ℕ). l ++ drop n more) front ∙ ap (λ (l : List ℕ). payload ++ l) after,
+              )
         ]
       ]
     ]
@@ -52,12 +51,12 @@ headed_refused : (expected n seq : ℕ) (more : List ℕ) (fault : WireFault) �
     → ((fault ≡ TooLarge n) × (most < n)) ⊎ ((fault ≡ OutOfOrder expected seq) × (n ≤ most) × (seq ≢ expected))
 headed_refused expected n seq more fault e =
     elim (chosen (nat_lt most n) (Refused (TooLarge n)) (cond (seq == expected) (cond (nat_lt (length more) n) Wanting (Whole (take n more) (drop n more))) (Refused (OutOfOrder expected seq))) (Refused fault) e) [
-      inl h ↦ let k : Refused (TooLarge n) ≡ Refused fault = h.1 in inl (cc, ltb-true most n h.0)
-    | inr h ↦ elim (chosen (seq == expected) (cond (nat_lt (length more) n) Wanting (Whole (take n more) (drop n more))) (Refused (OutOfOrder expected seq)) (Refused fault) h.1) [
-        inr i ↦ let k : Refused (OutOfOrder expected seq) ≡ Refused fault = i.1 in inr (cc, ltb-false most n h.0, eqb-false seq expected i.0)
-      | inl i ↦ elim (chosen (nat_lt (length more) n) Wanting (Whole (take n more) (drop n more)) (Refused fault) i.1) [
-          inl j ↦ absurd (let k : Wanting ≡ Refused fault = j.1 in cc)
-        | inr j ↦ absurd (let k : Whole (take n more) (drop n more) ≡ Refused fault = j.1 in cc)
+      | inl h ↦ let k : Refused (TooLarge n) ≡ Refused fault = h.1 in inl (cc, ltb-true most n h.0)
+      | inr h ↦ elim (chosen (seq == expected) (cond (nat_lt (length more) n) Wanting (Whole (take n more) (drop n more))) (Refused (OutOfOrder expected seq)) (Refused fault) h.1) [
+        | inr i ↦ let k : Refused (OutOfOrder expected seq) ≡ Refused fault = i.1 in inr (cc, ltb-false most n h.0, eqb-false seq expected i.0)
+        | inl i ↦ elim (chosen (nat_lt (length more) n) Wanting (Whole (take n more) (drop n more)) (Refused fault) i.1) [
+          | inl j ↦ absurd (let k : Wanting ≡ Refused fault = j.1 in cc)
+          | inr j ↦ absurd (let k : Whole (take n more) (drop n more) ≡ Refused fault = j.1 in cc)
         ]
       ]
     ]
@@ -72,8 +71,7 @@ packet_found expected (a ∷ b ∷ c ∷ seq ∷ more) payload rest fits e =
     let four : nat_lt (length (a ∷ b ∷ c ∷ seq ∷ more)) 4 ≡ false = le-ltb (length (a ∷ b ∷ c ∷ seq ∷ more)) 4 (omega arith) in
     let f : headed expected n seq more ≡ Whole payload rest = sym (ap (λ (t : Bool). cond t Wanting (headed expected n seq more)) four) ∙ e in
     let h = headed_whole expected n seq more payload rest f in
-    let cells : little_bytes 3 (length payload) ≡ a ∷ b ∷ c ∷ [] = ap (little_bytes 3) h.2 ∙ little_three a b c (seq ∷ more) fits.0 fits.1.0 fits.1.1.0 in
-    (
+    let cells : little_bytes 3 (length payload) ≡ a ∷ b ∷ c ∷ [] = ap (little_bytes 3) h.2 ∙ little_three a b c (seq ∷ more) fits.0 fits.1.0 fits.1.1.0 in (
       ap (λ (l : List ℕ). a ∷ b ∷ c ∷ seq ∷ l) h.3 ∙ ap (λ (s : ℕ). a ∷ b ∷ c ∷ s ∷ (payload ++ rest)) h.1 ∙ ap (λ (l : List ℕ). l ++ expected ∷ (payload ++ rest)) (sym cells),
       let le = h.0 in let sized = h.2 in omega arith,
     )
@@ -104,8 +102,8 @@ refusal_found expected (a ∷ b ∷ c ∷ seq ∷ more) fault fits e =
     let cells = little_three a b c (seq ∷ more) fits.0 fits.1.0 fits.1.1.0 in
     let whole : a ∷ b ∷ c ∷ seq ∷ more ≡ little_bytes 3 n ++ seq ∷ more = ap (λ (l : List ℕ). l ++ seq ∷ more) (sym cells) in
     elim (headed_refused expected n seq more fault f) [
-      inl h ↦ subst (IsRefused expected (a ∷ b ∷ c ∷ seq ∷ more)) (sym h.0) (seq, more, whole, h.1, little_fits a b c (seq ∷ more) fits.0 fits.1.0 fits.1.1.0)
-    | inr h ↦ subst (IsRefused expected (a ∷ b ∷ c ∷ seq ∷ more)) (sym h.0) (n, more, whole, h.1, refl, h.2)
+      | inl h ↦ subst (IsRefused expected (a ∷ b ∷ c ∷ seq ∷ more)) (sym h.0) (seq, more, whole, h.1, little_fits a b c (seq ∷ more) fits.0 fits.1.0 fits.1.1.0)
+      | inr h ↦ subst (IsRefused expected (a ∷ b ∷ c ∷ seq ∷ more)) (sym h.0) (n, more, whole, h.1, refl, h.2)
     ]
 
 -- a header is read as it was written
@@ -182,8 +180,8 @@ one_split first stream (p ∷ ps) (q ∷ qs) r t a b =
     let x : List ℕ = packets (next first) ps ++ r in
     let y : List ℕ = packets (next first) qs ++ t in
     let k : Whole p x ≡ Whole q y =
-        sym (packet_again first p x a.fit.0) ∙ ap (first_packet first) (sym (append_assoc (packet first p) (packets (next first) ps) r) ∙ sym a.whole ∙ b.whole ∙ append_assoc (packet first q) (packets (next first) qs) t)
-        ∙ packet_again first q y b.fit.0 in
+    sym (packet_again first p x a.fit.0) ∙ ap (first_packet first) (sym (append_assoc (packet first p) (packets (next first) ps) r) ∙ sym a.whole ∙ b.whole ∙ append_assoc (packet first q) (packets (next first) qs) t)
+    ∙ packet_again first q y b.fit.0 in
     let heads : p ≡ q = cc in
     let tails : x ≡ y = cc in
     let i = one_split (next first) x ps qs r t (record { whole = refl; fit = a.fit.1; ends = a.ends }) (record { whole = tails; fit = b.fit.1; ends = b.ends }) in

@@ -37,9 +37,9 @@ pub data Found : Type 0 where
 -- what a header of that length and number, with these bytes after it, begins
 abbrev pub headed : ℕ → ℕ → ℕ → List ℕ → Found
 headed expected n seq bytes =
-  if nat_lt most n then Refused (TooLarge n)
-  else if seq == expected then (if nat_lt (length bytes) n then Wanting else Whole (take n bytes) (drop n bytes))
-  else Refused (OutOfOrder expected seq)
+    if nat_lt most n then Refused (TooLarge n)
+    else if seq == expected then (if nat_lt (length bytes) n then Wanting else Whole (take n bytes) (drop n bytes))
+    else Refused (OutOfOrder expected seq)
 
 -- what stands at the front of these bytes, where a packet of that number is expected
 abbrev pub first_packet : ℕ → List ℕ → Found

@@ -35,3 +35,6 @@ pub use source::{Failed, Source};
 pub struct Status {
     pub code: u8,
 }
+
+#[cfg(test)]
+mod tests;

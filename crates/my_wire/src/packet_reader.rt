@@ -116,7 +116,10 @@ impl PacketReader {
                 let seq = self.expected;
                 self.start += 4 + payload.len();
                 self.expected = seq.wrapping_add(1);
-                Ok(Some(Packet { seq, payload: Bytes::from_vec(payload) }))
+                Ok(Some(Packet {
+                    seq,
+                    payload: Bytes::from_vec(payload),
+                }))
             }
             Err(fault) => {
                 self.refused = Some(fault);

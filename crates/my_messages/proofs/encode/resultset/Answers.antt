@@ -1,4 +1,4 @@
-use Rattle.std.proofs.Common.{map, length, ◌∙◌, ap, sym, rules, ◌≡◌, ◌++◌, List, ℕ}
+use Rattle.std.proofs.Common.{map, length, ◌∙◌, ap, rules, ◌≡◌, ◌++◌, List, ℕ}
 use Rattle.my_wire.specs.Lenenc.{lenenc}
 use Rattle.my_wire.specs.Packets.{packet}
 use Rattle.my_messages.specs.Reply.{definition_bytes, row_bytes, eof_bytes}

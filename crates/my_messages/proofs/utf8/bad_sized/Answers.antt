@@ -1,4 +1,4 @@
-use Rattle.std.proofs.Common.{◌≡◌, ◌&&◌, ◌-◌, ◌<◌, ◌≤◌, nat_le, true, false, slice_index_or, length, refl, arith}
+use Rattle.std.proofs.Common.{◌≡◌, ◌&&◌, ◌-◌, nat_le, true, false, slice_index_or, refl, arith}
 use Rattle.my_messages.specs.Utf8.{owed, may_follow, sized_after, bad_of}
 use Rattle.my_messages.proofs.BadPlaces.{sized_on, sized_off, sized_end}
 use Rattle.my_messages.proofs.utf8.bad_sized.Goals as goal

@@ -1,4 +1,4 @@
-use Rattle.std.proofs.Common.{arith, subst, sym, take, drop, ◌≡◌, rules}
+use Rattle.std.proofs.Common.{arith, subst, sym, take, ◌≡◌}
 use Rattle.std.specs.Str.{IsUtf8}
 use Rattle.my_messages.proofs.Texts.{utf8_sized, sized_utf8}
 use Rattle.my_messages.proofs.utf8.front_text.Goals as goal

@@ -1,4 +1,4 @@
-use Rattle.std.proofs.Common.{◌∙◌, sym, ap, List, ℕ, Ok, Result, rules}
+use Rattle.std.proofs.Common.{◌∙◌, sym, ap, List, ℕ, Ok}
 use Rattle.my_messages.proofs.Texts.{all_utf8, utf8_all}
 use Rattle.my_messages.proofs.utf8.whole_text.Goals as goal
 

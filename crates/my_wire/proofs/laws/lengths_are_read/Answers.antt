@@ -1,5 +1,4 @@
-use Rattle.std.proofs.Common.{refl}
-use Rattle.my_wire.proofs.Lenencs.{lenenc_found, lenenc_again, lenenc_short, no_number}
+use Rattle.my_wire.proofs.Lenencs.{lenenc_found, lenenc_again, lenenc_short}
 use Rattle.my_wire.proofs.laws.lengths_are_read.Goals as goal
 
 pub returns-clause-found : goal.returns-clause-found

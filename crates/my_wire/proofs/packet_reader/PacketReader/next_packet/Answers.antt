@@ -1,4 +1,4 @@
-use Rattle.std.proofs.Common.{◌≡◌, ◌+◌, drop, length, arith, rules}
+use Rattle.std.proofs.Common.{◌≡◌, ◌+◌, drop, length, arith}
 use Rattle.std.proofs.lemmas.Grind.{common_steps}
 use Rattle.my_wire.specs.Packets.{found, Whole}
 use Rattle.my_wire.proofs.packet_reader.PacketReader.next_packet.Goals as goal
