@@ -1,4 +1,4 @@
-ghost use Rattle.std.specs.Prelude.{◌≡◌, ◌++◌, ◌↔◌, [], ◌∷◌, length, IsTrue, OnOk, OnErr};
+ghost use Rattle.std.specs.Prelude.{◌≡◌, ◌++◌, ◌+◌, ◌^◌, ◌<◌, ◌↔◌, [], ◌∷◌, length, IsTrue, OnOk, OnErr};
 
 use std::alloc::{AllocError, AllocFailed, Global};
 use std::marker::Model;
@@ -74,6 +74,41 @@ impl<T> Listed<T> {
         ensures err { OnErr result (self.new ≡ self.old) }
     {
         self.items.push(item)
+    }
+}
+
+impl<T: Drop> Listed<T> {
+    /// Takes all elements away, and keeps the room for as many.
+    pub fn clear(&mut self)
+        ensures { self.new ≡ [] }
+    {
+        self.items.clear();
+    }
+}
+
+impl<T: Copy> Listed<T> {
+    /// Adds these elements at the end.
+    pub fn extend_from_slice(&mut self, items: &[T]) -> Result<(), AllocError>
+        ensures ok { OnOk result (self.new ≡ self.old ++ items.now) }
+        ensures err { OnErr result (self.new ≡ self.old) }
+    {
+        self.items.extend_from_slice(items)
+    }
+
+    /// Adds both runs of elements at the end, or neither.
+    pub fn extend_from_slices(&mut self, first: &[T], second: &[T]) -> Result<(), AllocError>
+        requires { length first.now + length second.now < 2 ^ 64 }
+        ensures ok { OnOk result (self.new ≡ self.old ++ (first.now ++ second.now)) }
+        ensures err { OnErr result (self.new ≡ self.old) }
+    {
+        self.items.reserve(first.len() + second.len())?;
+        let Ok(()) = self.items.extend_from_slice(first) else {
+            unreachable!()
+        };
+        let Ok(()) = self.items.extend_from_slice(second) else {
+            unreachable!()
+        };
+        Ok(())
     }
 }
 

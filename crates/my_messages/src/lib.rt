@@ -5,7 +5,23 @@
 //! Documentation).
 #![tactic(auto)]
 
+mod command;
+mod encode;
+mod fault;
+mod fields;
+mod reading;
 mod reply;
+mod reply_reader;
+mod row;
+mod stage;
+mod utf8;
 
+pub use command::{Command, LONGEST_DATABASE, decode_command, encode_command};
+pub use encode::encode_reply;
+pub use fault::MessageFault;
 pub use list_types::Text;
 pub use reply::{Cell, CellRow, CellRows, Column, Columns, Reply};
+pub use reply_reader::ReplyReader;
+
+#[cfg(test)]
+mod tests;

@@ -9,13 +9,24 @@
 #![tactic(auto)]
 
 mod files;
+mod laws;
+mod lenenc;
 mod memory;
+mod packet;
+mod packet_reader;
 mod sink;
 mod source;
 
 pub use files::{Files, FilesFault, LARGEST_FILE};
+pub use laws::{
+    lengths_are_read, lengths_are_shortest, packets_are_found, payloads_are_the_stream,
+    streams_split_in_one_way,
+};
+pub use lenenc::{Lenenc, read_lenenc, write_lenenc};
 pub use list_types::Bytes;
 pub use memory::{MemFile, MemFiles, MemSink, MemSource, ScriptedCall};
+pub use packet::{LARGEST_PAYLOAD, Packet, WireFault, write_packet};
+pub use packet_reader::PacketReader;
 pub use sink::{Sink, write_all, write_three};
 pub use source::{Failed, Source};
 
@@ -24,3 +35,6 @@ pub use source::{Failed, Source};
 pub struct Status {
     pub code: u8,
 }
+
+#[cfg(test)]
+mod tests;
