@@ -1,6 +1,7 @@
 pub mod Clients
 pub mod Ends
 pub mod Keys
+pub mod LineWords
 pub mod Outputs
 pub mod Requests
 pub mod Runs

@@ -1,16 +1,13 @@
-use Rattle.std.proofs.Common.{◌≡◌, inl, inr, ℕ, ◌+◌, ◌<◌, ◌≤◌, ◌++◌, List, [], ◌∷◌, Bool, true, false, cond, None, option_to_list, map, refl, sym, ap, ◌∙◌, subst, arith}
-use Rattle.std.specs.Prelude.{◌||◌, nat_lt}
+use Rattle.std.proofs.Common.{◌≡◌, inl, inr, ℕ, ◌+◌, ◌<◌, ◌≤◌, ◌++◌, List, [], ◌∷◌, true, None, option_to_list, map, refl, sym, ap, ◌∙◌, subst, arith}
 use Rattle.std.specs.List.{flat_map, AllByRecursion}
 use Rattle.std.proofs.lemmas.Grind.{flat_map-append}
 use Rattle.std.proofs.lemmas.List.{append-nil}
-use Rattle.std.proofs.lemmas.Bool.Decides.{nat_tests}
 use Rattle.sql_text.specs.Reading.{statement_of}
 use Rattle.plain_tables.specs.Table.{Table}
 use Rattle.plain_tables.specs.Exec.{exec}
 use Rattle.plain_tables.specs.Solo.{Solo, solo_answers, solo_after}
 use Rattle.plain_tables.specs.Serial as serial
 use Rattle.plain_tables.specs.Serial.{Entry, Transaction, Follows}
-use Rattle.spider_cli.specs.declared.schedule.LineRule.TheVariants.{UnknownWord}
 use Rattle.spider_cli.specs.declared.front_core.TxNo.{TxNo}
 use Rattle.spider_cli.specs.declared.front_core.Output.{Output}
 use Rattle.spider_cli.specs.World.{World, client}
@@ -18,34 +15,10 @@ use Rattle.spider_cli.specs.Schedule.{Line, Passed, Client, Broken, words_of, li
 use Rattle.spider_cli.specs.Run.{Played, Run, after_line, line_does, line_step, by_step, run_of, run_of_schedule}
 use Rattle.spider_cli.specs.History.{sent_by, statements_of, answers_of, decided_in, decisions_of, acknowledged_in, entries_by, entries_in, entries_of, entries_with, transaction_of, IsPlain}
 use Rattle.spider_cli.proofs.Keys.{IsRising}
+use Rattle.spider_cli.proofs.LineWords.{NotBroken, line_is_words, line_is_early}
 use Rattle.spider_cli.proofs.Clients.{resting, DoesPlain, client_plain}
 
 -- A run does what plain tables do, line by line.
-
--- LINES
-
-abbrev NotBroken : Line → Type 0
-NotBroken Passed = Unit {0}
-NotBroken (Client text) = Unit {0}
-NotBroken (Broken rule) = ⊥
-
-words_by : (b : Bool) (l : Line) → NotBroken (cond b (Broken UnknownWord) l) → cond b (Broken UnknownWord) l ≡ l
-words_by true l n = absurd n
-words_by false l n = refl
-
--- a line that breaks no rule is its words
-line_is_words : (number : ℕ) (line : List ℕ) → NotBroken (line_of number line) → line_of number line ≡ words_of line
-unfolding line_of
-line_is_words number line n = words_by _ (words_of line) n
-
-few_by : (b c : Bool) (l : Line) → NotBroken (cond (b || c) (Broken UnknownWord) l) → b ≡ false
-few_by true c l n = absurd n
-few_by false c l n = refl
-
--- it is one of the first million
-line_is_early : (number : ℕ) (line : List ℕ) → NotBroken (line_of number line) → number ≤ 1000000
-unfolding line_of
-line_is_early number line n = let t : nat_lt 1000000 number ≡ false = few_by (nat_lt 1000000 number) _ _ n in grind (arith, nat_tests)
 
 -- LISTS
 

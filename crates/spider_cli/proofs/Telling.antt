@@ -3,6 +3,7 @@ use Rattle.std.specs.Prelude.{◌==◌, ◌||◌, nat_lt}
 use Rattle.std.proofs.lemmas.List.{append-nil, length-append}
 use Rattle.std.proofs.lemmas.Bool.{false≢true}
 use Rattle.std.specs.Result.{IsErrAnd}
+use Rattle.spider_cli.proofs.LineWords.{NotBroken, line_is_early}
 use Rattle.spider_cli.specs.Playing.{NoEnd, run_from, told_by}
 use Rattle.spider_cli.specs.Shown.{shown}
 use Rattle.spider_cli.specs.declared.world_play.Player.{Player}
@@ -57,19 +58,6 @@ broken_told w n line text rule lines h =
 
 -- LIMITS
 
-abbrev pub NotBroken : Line → Type 0
-NotBroken Passed = Unit {0}
-NotBroken (Client text) = Unit {0}
-NotBroken (Broken rule) = ⊥
-
-few_by : (b c : Bool) (l : Line) → NotBroken (cond (b || c) (Broken UnknownWord) l) → b ≡ false
-few_by true c l g = absurd g
-few_by false c l g = refl
-
-few_lines : (n : ℕ) (line : List ℕ) → NotBroken (line_of n line) → n ≤ 1000000
-unfolding line_of
-few_lines n line g = let t : nat_lt 1000000 n ≡ false = few_by (nat_lt 1000000 n) _ _ g in grind (arith, nat_tests)
-
 not_broken : (l : Line) (w : World) (s : World × List Output) → line_does l w ≡ Ok s → NotBroken l
 not_broken Passed w s h = tt
 not_broken (Client text) w s h = tt
@@ -78,7 +66,7 @@ not_broken (Broken rule) w s h = absurd (cc)
 -- a line that was played is one of the first million
 pub few : (n : ℕ) (w : World) (line : List ℕ) (s : World × List Output) → line_step n w line ≡ Ok s → n ≤ 1000000
 unfolding line_step
-few n w line s h = few_lines n line (not_broken (line_of n line) w s h)
+few n w line s h = line_is_early n line (not_broken (line_of n line) w s h)
 
 long_by : (b c d : Bool) (l : Line) → c ≡ true → cond (b || (c || d)) (Broken UnknownWord) l ≡ Broken UnknownWord
 long_by true c d l h = refl
