@@ -1,26 +1,26 @@
 -- Each payload is read exactly where it is one of its form.
-use Rattle.std.proofs.Common.{◌≡◌, ◌≢◌, ℕ, zero, suc, ◌+◌, ◌-◌, ◌*◌, ◌^◌, ◌<◌, ◌≤◌, ◌⊎◌, Bool, true, false, cond, nat_lt, ◌==◌, min, List, [], ◌∷◌, ◌++◌, length, take, drop, replicate, Option, Some, None, Result, Ok, Err, refl, sym, ap, subst, ◌∙◌, append_assoc, inl, inr, arith, eq-eqb, ne_eqb}
+use Rattle.std.proofs.Common.{◌≡◌, ◌≢◌, ℕ, zero, suc, ◌+◌, ◌-◌, ◌*◌, ◌<◌, ◌⊎◌, Bool, false, cond, ◌==◌, List, [], ◌∷◌, ◌++◌, length, take, drop, replicate, Option, Some, None, Ok, Err, refl, sym, ap, subst, ◌∙◌, append_assoc, inl, inr, arith, ne_eqb}
 use Rattle.std.specs.Prelude.{codes}
 use Rattle.std.specs.Str.{IsUtf8}
 use Rattle.simdutf8.specs.Steps.{Step, first}
-use Rattle.std.proofs.lemmas.Bool.{cases_lt, cases_eq, eqb-true, eqb-false}
-use Rattle.std.proofs.lemmas.List.{length-append, length-replicate, length-take, append-nil, take_at, drop_at, take-append-drop}
+use Rattle.std.proofs.lemmas.Bool.{eqb-true, eqb-false}
+use Rattle.std.proofs.lemmas.List.{length-append, length-take, append-nil, take_at, drop_at, take-append-drop}
 use Rattle.byteorder.specs.Endian.{little_from, little_number}
 use Rattle.byteorder.specs.Numbers.{little_from-cons}
-use Rattle.my_wire.specs.Grammar.{IsBytes, Then, ◌▷◌, Begins, IsExactly, IsEnd, ◌>>=◌}
+use Rattle.my_wire.specs.Grammar.{IsBytes, Then, Begins, IsExactly, IsEnd, ◌>>=◌}
 use Rattle.my_wire.specs.Lenenc.{IsLenenc, width_of, lenenc_at}
 use Rattle.my_wire.specs.declared.lenenc.Lenenc.{Lenenc}
 use Rattle.my_wire.specs.declared.lenenc.Lenenc.TheVariants.{Number, Null, Short, Bad}
-use Rattle.my_wire.proofs.Fields.{IsBytes-append, Both, Stuck, IsField, IsMessage, ok_is, bind_ok, bind_err, field_then, field_field, same_message, same_field, message_as}
+use Rattle.my_wire.proofs.Fields.{Both, Stuck, IsField, IsMessage, ok_is, bind_ok, bind_err, field_then, field_field, same_message, same_field, message_as}
 use Rattle.my_wire.proofs.Lenencs.{chosen, has_width, lenenc_found, lenenc_again, lenenc_short, lenenc_front, no_number, one_positive}
-use Rattle.my_messages.specs.Fields.{IsInt, IsNumber, IsUtf8Of, IsText, HasNoNul, IsNulText, IsFixed, IsAny}
-use Rattle.my_messages.specs.Utf8.{owed, sized_after, nul_after, all_after}
-use Rattle.my_messages.specs.Reading.{literal_at, int_at, fixed_at, number_at, text_at, or_else, any_at, small_at, end_at, ok_at, err_at, switch_at, eof_at, counted, count_from, count_at, definition_at, cell_at, cells_at}
-use Rattle.my_messages.specs.Reply.{IsOkPacket, IsErrPacket, IsEofPacket, IsSwitchRequest, IsColumnCount, IsDefinition, IsCell, IsRow, IsRowOf}
+use Rattle.my_messages.specs.Fields.{IsInt, IsNumber, IsUtf8Of, IsText, IsNulText, IsFixed}
+use Rattle.my_messages.specs.Utf8.{sized_after, nul_after, all_after}
+use Rattle.my_messages.specs.Reading.{literal_at, int_at, fixed_at, number_at, text_at, or_else, small_at, end_at, ok_at, err_at, switch_at, eof_at, count_from, count_at, definition_at, cell_at, cells_at}
+use Rattle.my_messages.specs.Reply.{IsOkPacket, IsErrPacket, IsEofPacket, IsSwitchRequest, IsColumnCount, IsDefinition, IsCell, IsRowOf}
 use Rattle.my_messages.specs.declared.reply.Column.{Column}
 use Rattle.my_messages.specs.declared.reply.Reply.{Reply}
 use Rattle.my_messages.specs.declared.reply.Reply.TheVariants as replies
-use Rattle.my_messages.proofs.Forms.{Either, either_field, either_message, end_message, literal_field, int_field, fixed_field, number_field}
+use Rattle.my_messages.proofs.Forms.{Either, either_field, end_message, literal_field, int_field, fixed_field, number_field}
 use Rattle.my_messages.proofs.Texts.{SizedAfter, NulAfter, AllAfter, sized_field, nul_field, all_message, start, steps_utf8, utf8_steps}
 
 -- ---- a small number in each of its forms
@@ -77,20 +77,20 @@ forms_field n tail lt fits =
     let c = literal_field (three_form n tail) (omega arith, (one, (omega arith, zeros))) in
     let d = literal_field (eight_form n tail) (omega arith, (one, (omega arith, (omega arith, (omega arith, (omega arith, (omega arith, (omega arith, zeros)))))))) in
     let cd = either_field (Lit (three_form n tail)) (Lit (eight_form n tail)) (literal_at (three_form n tail)) (literal_at (eight_form n tail)) c d
-        (λ x y f g u v p q e. apart 0xFD 0xFE (n ∷ 0 ∷ 0 ∷ tail) (n ∷ 0 ∷ 0 ∷ 0 ∷ 0 ∷ 0 ∷ 0 ∷ 0 ∷ tail) u v f g (λ k. omega (arith, k)) p q e) in
+    (λ x y f g u v p q e. apart 0xFD 0xFE (n ∷ 0 ∷ 0 ∷ tail) (n ∷ 0 ∷ 0 ∷ 0 ∷ 0 ∷ 0 ∷ 0 ∷ 0 ∷ tail) u v f g (λ k. omega (arith, k)) p q e) in
     let bcd = either_field (Lit (two_form n tail)) (Either (Lit (three_form n tail)) (Lit (eight_form n tail))) (literal_at (two_form n tail))
-        (λ (bytes : List ℕ). or_else (literal_at (three_form n tail) bytes) (literal_at (eight_form n tail) bytes)) b cd
-        (λ x y f g u v p q e. elim q [
-          inl h ↦ apart 0xFC 0xFD (n ∷ 0 ∷ tail) (n ∷ 0 ∷ 0 ∷ tail) u v f g (λ k. omega (arith, k)) p h e
-        | inr h ↦ apart 0xFC 0xFE (n ∷ 0 ∷ tail) (n ∷ 0 ∷ 0 ∷ 0 ∷ 0 ∷ 0 ∷ 0 ∷ 0 ∷ tail) u v f g (λ k. omega (arith, k)) p h e
-        ]) in
+    (λ (bytes : List ℕ). or_else (literal_at (three_form n tail) bytes) (literal_at (eight_form n tail) bytes)) b cd
+    (λ x y f g u v p q e. elim q [
+      | inl h ↦ apart 0xFC 0xFD (n ∷ 0 ∷ tail) (n ∷ 0 ∷ 0 ∷ tail) u v f g (λ k. omega (arith, k)) p h e
+      | inr h ↦ apart 0xFC 0xFE (n ∷ 0 ∷ tail) (n ∷ 0 ∷ 0 ∷ 0 ∷ 0 ∷ 0 ∷ 0 ∷ 0 ∷ tail) u v f g (λ k. omega (arith, k)) p h e
+    ]) in
     either_field (Lit (n ∷ tail)) (Either (Lit (two_form n tail)) (Either (Lit (three_form n tail)) (Lit (eight_form n tail)))) (literal_at (n ∷ tail))
     (λ (bytes : List ℕ). or_else (literal_at (two_form n tail) bytes) (or_else (literal_at (three_form n tail) bytes) (literal_at (eight_form n tail) bytes))) a bcd
     (λ x y f g u v p q e. elim q [
-      inl h ↦ apart n 0xFC tail (n ∷ 0 ∷ tail) u v f g (λ k. omega (arith, k)) p h e
-    | inr r ↦ elim r [
-        inl h ↦ apart n 0xFD tail (n ∷ 0 ∷ 0 ∷ tail) u v f g (λ k. omega (arith, k)) p h e
-      | inr h ↦ apart n 0xFE tail (n ∷ 0 ∷ 0 ∷ 0 ∷ 0 ∷ 0 ∷ 0 ∷ 0 ∷ tail) u v f g (λ k. omega (arith, k)) p h e
+      | inl h ↦ apart n 0xFC tail (n ∷ 0 ∷ tail) u v f g (λ k. omega (arith, k)) p h e
+      | inr r ↦ elim r [
+        | inl h ↦ apart n 0xFD tail (n ∷ 0 ∷ 0 ∷ tail) u v f g (λ k. omega (arith, k)) p h e
+        | inr h ↦ apart n 0xFE tail (n ∷ 0 ∷ 0 ∷ 0 ∷ 0 ∷ 0 ∷ 0 ∷ 0 ∷ tail) u v f g (λ k. omega (arith, k)) p h e
       ]
     ])
 
@@ -107,12 +107,12 @@ forms_small n tail lt x bytes (inr (inr (inr e))) = record { front = eight_form 
 form_width : (lead w : ℕ) → width_of lead ≡ Some w → ((lead ≡ 0xFC) × (w ≡ 2)) ⊎ (((lead ≡ 0xFD) × (w ≡ 3)) ⊎ ((lead ≡ 0xFE) × (w ≡ 8)))
 form_width lead w e =
     elim (chosen (lead == 0xFC) (Some 2) (cond (lead == 0xFD) (Some 3) (cond (lead == 0xFE) (Some 8) None)) (Some w) e) [
-      inl h ↦ inl (eqb-true lead 0xFC h.0, (let k : Some 2 ≡ Some w = h.1 in cc))
-    | inr h ↦ elim (chosen (lead == 0xFD) (Some 3) (cond (lead == 0xFE) (Some 8) None) (Some w) h.1) [
-        inl i ↦ inr (inl (eqb-true lead 0xFD i.0, (let k : Some 3 ≡ Some w = i.1 in cc)))
-      | inr i ↦ elim (chosen (lead == 0xFE) (Some 8) None (Some w) i.1) [
-          inl j ↦ inr (inr (eqb-true lead 0xFE j.0, (let k : Some 8 ≡ Some w = j.1 in cc)))
-        | inr j ↦ absurd (let k : None ≡ Some w = j.1 in cc)
+      | inl h ↦ inl (eqb-true lead 0xFC h.0, (let k : Some 2 ≡ Some w = h.1 in cc))
+      | inr h ↦ elim (chosen (lead == 0xFD) (Some 3) (cond (lead == 0xFE) (Some 8) None) (Some w) h.1) [
+        | inl i ↦ inr (inl (eqb-true lead 0xFD i.0, (let k : Some 3 ≡ Some w = i.1 in cc)))
+        | inr i ↦ elim (chosen (lead == 0xFE) (Some 8) None (Some w) i.1) [
+          | inl j ↦ inr (inr (eqb-true lead 0xFE j.0, (let k : Some 8 ≡ Some w = j.1 in cc)))
+          | inr j ↦ absurd (let k : None ≡ Some w = j.1 in cc)
         ]
       ]
     ]
@@ -124,10 +124,10 @@ small_front n tail (lead ∷ more) lt (inr h) x =
     let w = has_width lead (length more) h.0 in
     let cells = small_cells n more (omega arith) w.some h.1 in
     elim (form_width lead (length more) h.0) [
-      inl k ↦ inr (inl (ap (λ (l : List ℕ). lead ∷ (l ++ tail)) (cells ∙ ap (λ (m : ℕ). n ∷ replicate (m - 1) 0) k.1) ∙ ap (λ (f : ℕ). f ∷ n ∷ 0 ∷ tail) k.0))
-    | inr r ↦ elim r [
-        inl k ↦ inr (inr (inl (ap (λ (l : List ℕ). lead ∷ (l ++ tail)) (cells ∙ ap (λ (m : ℕ). n ∷ replicate (m - 1) 0) k.1) ∙ ap (λ (f : ℕ). f ∷ n ∷ 0 ∷ 0 ∷ tail) k.0)))
-      | inr k ↦ inr (inr (inr (ap (λ (l : List ℕ). lead ∷ (l ++ tail)) (cells ∙ ap (λ (m : ℕ). n ∷ replicate (m - 1) 0) k.1) ∙ ap (λ (f : ℕ). f ∷ n ∷ 0 ∷ 0 ∷ 0 ∷ 0 ∷ 0 ∷ 0 ∷ 0 ∷ tail) k.0)))
+      | inl k ↦ inr (inl (ap (λ (l : List ℕ). lead ∷ (l ++ tail)) (cells ∙ ap (λ (m : ℕ). n ∷ replicate (m - 1) 0) k.1) ∙ ap (λ (f : ℕ). f ∷ n ∷ 0 ∷ tail) k.0))
+      | inr r ↦ elim r [
+        | inl k ↦ inr (inr (inl (ap (λ (l : List ℕ). lead ∷ (l ++ tail)) (cells ∙ ap (λ (m : ℕ). n ∷ replicate (m - 1) 0) k.1) ∙ ap (λ (f : ℕ). f ∷ n ∷ 0 ∷ 0 ∷ tail) k.0)))
+        | inr k ↦ inr (inr (inr (ap (λ (l : List ℕ). lead ∷ (l ++ tail)) (cells ∙ ap (λ (m : ℕ). n ∷ replicate (m - 1) 0) k.1) ∙ ap (λ (f : ℕ). f ∷ n ∷ 0 ∷ 0 ∷ 0 ∷ 0 ∷ 0 ∷ 0 ∷ 0 ∷ tail) k.0)))
       ]
     ]
 
@@ -205,7 +205,6 @@ pub ok_message : IsMessage OkReply ok_at
 unfolding ok_at
 ok_message = same_message ok_chain OkReply ok_at ok_to ok_from (field_then (Lit (0 ∷ [])) (literal_at (0 ∷ [])) (λ (x0 : Unit {0}). Both IsNumber (λ (affected : ℕ). Both (λ (x : Unit {0}) (b : List ℕ). IsNumber 0 b) (λ (x1 : Unit {0}). Both (IsInt 2) (λ (status : ℕ). Both (IsInt 2) (λ (warnings : ℕ). λ (y : Reply) (b : List ℕ). (y ≡ replies.Ok affected status warnings) × IsEnd b))))) (λ (x0 : Unit {0}) (b0 : List ℕ). (number_at b0 >>= λ q1. ((small_at 0 []) q1.1 >>= λ q2. ((int_at 2) q2.1 >>= λ q3. ((int_at 2) q3.1 >>= λ q4. end_at (replies.Ok q1.0 q3.0 q4.0) q4.1))))) (literal_field (0 ∷ []) (omega arith, tt)) (λ x0. (field_then IsNumber number_at (λ (affected : ℕ). Both (λ (x : Unit {0}) (b : List ℕ). IsNumber 0 b) (λ (x1 : Unit {0}). Both (IsInt 2) (λ (status : ℕ). Both (IsInt 2) (λ (warnings : ℕ). λ (y : Reply) (b : List ℕ). (y ≡ replies.Ok affected status warnings) × IsEnd b)))) (λ (affected : ℕ) (b1 : List ℕ). ((small_at 0 []) b1 >>= λ q2. ((int_at 2) q2.1 >>= λ q3. ((int_at 2) q3.1 >>= λ q4. end_at (replies.Ok affected q3.0 q4.0) q4.1)))) number_field (λ affected. (field_then (λ (x : Unit {0}) (b : List ℕ). IsNumber 0 b) (small_at 0 []) (λ (x1 : Unit {0}). Both (IsInt 2) (λ (status : ℕ). Both (IsInt 2) (λ (warnings : ℕ). λ (y : Reply) (b : List ℕ). (y ≡ replies.Ok affected status warnings) × IsEnd b))) (λ (x1 : Unit {0}) (b2 : List ℕ). ((int_at 2) b2 >>= λ q3. ((int_at 2) q3.1 >>= λ q4. end_at (replies.Ok affected q3.0 q4.0) q4.1))) zero_field (λ x1. (field_then (IsInt 2) (int_at 2) (λ (status : ℕ). Both (IsInt 2) (λ (warnings : ℕ). λ (y : Reply) (b : List ℕ). (y ≡ replies.Ok affected status warnings) × IsEnd b)) (λ (status : ℕ) (b3 : List ℕ). ((int_at 2) b3 >>= λ q4. end_at (replies.Ok affected status q4.0) q4.1)) (int_field 2) (λ status. (field_then (IsInt 2) (int_at 2) (λ (warnings : ℕ). λ (y : Reply) (b : List ℕ). (y ≡ replies.Ok affected status warnings) × IsEnd b) (λ (warnings : ℕ) (b4 : List ℕ). end_at (replies.Ok affected status warnings) b4) (int_field 2) (λ warnings. end_message (replies.Ok affected status warnings)))))))))))
 
-
 -- an ERR
 abbrev pub ErrReply : Reply → List ℕ → Type 0
 ErrReply y bytes = (number : ℕ) × (state : List ℕ) × (message : List ℕ) × (y ≡ replies.Err number state message) × IsErrPacket number state message bytes
@@ -222,7 +221,6 @@ err_from y bytes h = (tt, record { front = h.4.front; rest = h.4.rest; whole = h
 pub err_message : IsMessage ErrReply err_at
 unfolding err_at
 err_message = same_message err_chain ErrReply err_at err_to err_from (field_then (Lit (0xFF ∷ [])) (literal_at (0xFF ∷ [])) (λ (x0 : Unit {0}). Both (IsInt 2) (λ (number : ℕ). Both (Lit (codes "#")) (λ (x1 : Unit {0}). Both (IsFixed 5) (λ (state : List ℕ). λ (y : Reply) (b : List ℕ). (m : List ℕ) × (y ≡ replies.Err number state m) × IsUtf8Of m b)))) (λ (x0 : Unit {0}) (b0 : List ℕ). ((int_at 2) b0 >>= λ q1. ((literal_at (codes "#")) q1.1 >>= λ q2. ((fixed_at 5) q2.1 >>= λ q3. (all_after 0 0 0 q3.1 >>= λ m. Ok (replies.Err q1.0 q3.0 m)))))) (literal_field (0xFF ∷ []) (omega arith, tt)) (λ x0. (field_then (IsInt 2) (int_at 2) (λ (number : ℕ). Both (Lit (codes "#")) (λ (x1 : Unit {0}). Both (IsFixed 5) (λ (state : List ℕ). λ (y : Reply) (b : List ℕ). (m : List ℕ) × (y ≡ replies.Err number state m) × IsUtf8Of m b))) (λ (number : ℕ) (b1 : List ℕ). ((literal_at (codes "#")) b1 >>= λ q2. ((fixed_at 5) q2.1 >>= λ q3. (all_after 0 0 0 q3.1 >>= λ m. Ok (replies.Err number q3.0 m))))) (int_field 2) (λ number. (field_then (Lit (codes "#")) (literal_at (codes "#")) (λ (x1 : Unit {0}). Both (IsFixed 5) (λ (state : List ℕ). λ (y : Reply) (b : List ℕ). (m : List ℕ) × (y ≡ replies.Err number state m) × IsUtf8Of m b)) (λ (x1 : Unit {0}) (b2 : List ℕ). ((fixed_at 5) b2 >>= λ q3. (all_after 0 0 0 q3.1 >>= λ m. Ok (replies.Err number q3.0 m)))) (literal_field (codes "#") (omega arith, tt)) (λ x1. (field_then (IsFixed 5) (fixed_at 5) (λ (state : List ℕ). λ (y : Reply) (b : List ℕ). (m : List ℕ) × (y ≡ replies.Err number state m) × IsUtf8Of m b) (λ (state : List ℕ) (b3 : List ℕ). (all_after 0 0 0 b3 >>= λ m. Ok (replies.Err number state m))) (fixed_field 5) (λ state. message_as (λ m. replies.Err number state m) IsUtf8Of (all_after 0 0 0) whole_text_message))))))))
-
 
 -- a request to log in by another plugin
 abbrev pub SwitchReply : Reply → List ℕ → Type 0
@@ -241,7 +239,6 @@ pub switch_message : IsMessage SwitchReply switch_at
 unfolding switch_at
 switch_message = same_message switch_chain SwitchReply switch_at switch_to switch_from (field_then (Lit (0xFE ∷ [])) (literal_at (0xFE ∷ [])) (λ (x0 : Unit {0}). Both IsNulText (λ (plugin : List ℕ). Both (IsFixed 20) (λ (nonce : List ℕ). Both (Lit (0 ∷ [])) (λ (x1 : Unit {0}). λ (y : Reply) (b : List ℕ). (y ≡ replies.Switch plugin nonce) × IsEnd b)))) (λ (x0 : Unit {0}) (b0 : List ℕ). ((nul_after 0 0 0) b0 >>= λ q1. ((fixed_at 20) q1.1 >>= λ q2. ((literal_at (0 ∷ [])) q2.1 >>= λ q3. end_at (replies.Switch q1.0 q2.0) q3.1)))) (literal_field (0xFE ∷ []) (omega arith, tt)) (λ x0. (field_then IsNulText (nul_after 0 0 0) (λ (plugin : List ℕ). Both (IsFixed 20) (λ (nonce : List ℕ). Both (Lit (0 ∷ [])) (λ (x1 : Unit {0}). λ (y : Reply) (b : List ℕ). (y ≡ replies.Switch plugin nonce) × IsEnd b))) (λ (plugin : List ℕ) (b1 : List ℕ). ((fixed_at 20) b1 >>= λ q2. ((literal_at (0 ∷ [])) q2.1 >>= λ q3. end_at (replies.Switch plugin q2.0) q3.1))) nul_text_field (λ plugin. (field_then (IsFixed 20) (fixed_at 20) (λ (nonce : List ℕ). Both (Lit (0 ∷ [])) (λ (x1 : Unit {0}). λ (y : Reply) (b : List ℕ). (y ≡ replies.Switch plugin nonce) × IsEnd b)) (λ (nonce : List ℕ) (b2 : List ℕ). ((literal_at (0 ∷ [])) b2 >>= λ q3. end_at (replies.Switch plugin nonce) q3.1)) (fixed_field 20) (λ nonce. (field_then (Lit (0 ∷ [])) (literal_at (0 ∷ [])) (λ (x1 : Unit {0}). λ (y : Reply) (b : List ℕ). (y ≡ replies.Switch plugin nonce) × IsEnd b) (λ (x1 : Unit {0}) (b3 : List ℕ). end_at (replies.Switch plugin nonce) b3) (literal_field (0 ∷ []) (omega arith, tt)) (λ x1. end_message (replies.Switch plugin nonce)))))))))
 
-
 -- an EOF
 
 abbrev eof_chain : ℕ → List ℕ → Type 0
@@ -256,7 +253,6 @@ eof_from y bytes h = (tt, record { front = h.front; rest = h.rest; whole = h.who
 pub eof_message : IsMessage IsEofPacket eof_at
 unfolding eof_at
 eof_message = same_message eof_chain IsEofPacket eof_at eof_to eof_from (field_then (Lit (0xFE ∷ [])) (literal_at (0xFE ∷ [])) (λ (x0 : Unit {0}). Both (IsFixed 2) (λ (warnings : List ℕ). Both (IsInt 2) (λ (status : ℕ). λ (y : ℕ) (b : List ℕ). (y ≡ status) × IsEnd b))) (λ (x0 : Unit {0}) (b0 : List ℕ). ((fixed_at 2) b0 >>= λ q1. ((int_at 2) q1.1 >>= λ q2. end_at (q2.0) q2.1))) (literal_field (0xFE ∷ []) (omega arith, tt)) (λ x0. (field_then (IsFixed 2) (fixed_at 2) (λ (warnings : List ℕ). Both (IsInt 2) (λ (status : ℕ). λ (y : ℕ) (b : List ℕ). (y ≡ status) × IsEnd b)) (λ (warnings : List ℕ) (b1 : List ℕ). ((int_at 2) b1 >>= λ q2. end_at (q2.0) q2.1)) (fixed_field 2) (λ warnings. (field_then (IsInt 2) (int_at 2) (λ (status : ℕ). λ (y : ℕ) (b : List ℕ). (y ≡ status) × IsEnd b) (λ (status : ℕ) (b2 : List ℕ). end_at (status) b2) (int_field 2) (λ status. end_message (status)))))))
-
 
 -- a column's definition
 
@@ -290,14 +286,14 @@ one_number front more v n h k =
 count_took : (bytes : List ℕ) (r : Lenenc) (n : ℕ) → lenenc_at bytes ≡ r → count_from bytes r ≡ Ok n → IsColumnCount n bytes
 count_took bytes (Number v u) n is e =
     elim (chosen (v == 0) (Err (length (drop (u - 1) bytes))) (end_at v (drop u bytes)) (Ok n) e) [
-      inl h ↦ absurd (let k : Err (length (drop (u - 1) bytes)) ≡ Ok n = h.1 in cc)
-    | inr h ↦
-        let f = lenenc_found bytes v u is in
-        let t = (end_message v).took (drop u bytes) n h.1 in
-        let whole : take u bytes ≡ bytes = sym (append-nil (take u bytes)) ∙ ap (λ (l : List ℕ). take u bytes ++ l) (sym t.1) ∙ take-append-drop u bytes in
-        let not_zero = eqb-false v 0 h.0 in
-        let value = t.0 in
-        (subst (λ (l : List ℕ). IsLenenc l n) whole (subst (IsLenenc (take u bytes)) (sym value) f.1), omega (arith, value))
+      | inl h ↦ absurd (let k : Err (length (drop (u - 1) bytes)) ≡ Ok n = h.1 in cc)
+      | inr h ↦
+          let f = lenenc_found bytes v u is in
+          let t = (end_message v).took (drop u bytes) n h.1 in
+          let whole : take u bytes ≡ bytes = sym (append-nil (take u bytes)) ∙ ap (λ (l : List ℕ). take u bytes ++ l) (sym t.1) ∙ take-append-drop u bytes in
+          let not_zero = eqb-false v 0 h.0 in
+          let value = t.0 in
+          (subst (λ (l : List ℕ). IsLenenc l n) whole (subst (IsLenenc (take u bytes)) (sym value) f.1), omega (arith, value))
     ]
 count_took bytes Null n is e = absurd cc
 count_took bytes Short n is e = absurd cc
@@ -366,9 +362,9 @@ end_length v (b ∷ bytes) left e = cc
 count_stuck : (bytes : List ℕ) (r : Lenenc) (left : ℕ) → lenenc_at bytes ≡ r → count_from bytes r ≡ Err left → Stuck IsColumnCount bytes left
 count_stuck bytes (Number v u) left is e =
     elim (chosen (v == 0) (Err (length (drop (u - 1) bytes))) (end_at v (drop u bytes)) (Err left) e) [
-      inl h ↦ let k : Err (length (drop (u - 1) bytes)) ≡ Err left = h.1 in let same : length (drop (u - 1) bytes) ≡ left = cc in subst (Stuck IsColumnCount bytes) same (count_zero bytes v u is (eqb-true v 0 h.0))
-    | inr h ↦
-        let s = end_length v (drop u bytes) left h.1 in subst (Stuck IsColumnCount bytes) s (count_more bytes v u is (eqb-false v 0 h.0))
+      | inl h ↦ let k : Err (length (drop (u - 1) bytes)) ≡ Err left = h.1 in let same : length (drop (u - 1) bytes) ≡ left = cc in subst (Stuck IsColumnCount bytes) same (count_zero bytes v u is (eqb-true v 0 h.0))
+      | inr h ↦
+          let s = end_length v (drop u bytes) left h.1 in subst (Stuck IsColumnCount bytes) s (count_more bytes v u is (eqb-false v 0 h.0))
     ]
 count_stuck bytes Null left is e = count_none bytes left (inl is) (let f : length bytes ≡ left = cc in sym f)
 count_stuck bytes Bad left is e = count_none bytes left (inr is) (let f : length bytes ≡ left = cc in sym f)
@@ -415,23 +411,21 @@ unfolding cell_at
 cell_took [] c rest e = absurd cc
 cell_took (b ∷ bytes) c rest e =
     elim (chosen (b == 0xFB) (Ok (None, bytes)) (text_at (b ∷ bytes) >>= λ t. Ok (Some t.0, t.1)) (Ok (c, rest)) e) [
-      inl h ↦
-        let p = ok_is (None, bytes) (c, rest) h.1 in
-        let fb = eqb-true b 0xFB h.0 in
-        (
-          0xFB ∷ [],
-          ap (λ (k : ℕ). k ∷ bytes) fb ∙ ap (λ (q : Option (List ℕ) × List ℕ). 0xFB ∷ q.1) p,
-          subst (λ (o : Option (List ℕ)). IsCell o (0xFB ∷ [])) (ap (λ (q : Option (List ℕ) × List ℕ). q.0) p) refl,
-        )
-    | inr h ↦
-        let a = bind_ok (text_at (b ∷ bytes)) (λ t. Ok (Some t.0, t.1)) (c, rest) h.1 in
-        let p = ok_is (Some a.0.0, a.0.1) (c, rest) a.2 in
-        let t = text_field.took (b ∷ bytes) a.0.0 a.0.1 a.1 in
-        (
-          t.0,
-          t.1 ∙ ap (λ (q : Option (List ℕ) × List ℕ). t.0 ++ q.1) p,
-          subst (λ (o : Option (List ℕ)). IsCell o t.0) (ap (λ (q : Option (List ℕ) × List ℕ). q.0) p) t.2,
-        )
+      | inl h ↦
+          let p = ok_is (None, bytes) (c, rest) h.1 in
+          let fb = eqb-true b 0xFB h.0 in (
+            0xFB ∷ [],
+            ap (λ (k : ℕ). k ∷ bytes) fb ∙ ap (λ (q : Option (List ℕ) × List ℕ). 0xFB ∷ q.1) p,
+            subst (λ (o : Option (List ℕ)). IsCell o (0xFB ∷ [])) (ap (λ (q : Option (List ℕ) × List ℕ). q.0) p) refl,
+          )
+      | inr h ↦
+          let a = bind_ok (text_at (b ∷ bytes)) (λ t. Ok (Some t.0, t.1)) (c, rest) h.1 in
+          let p = ok_is (Some a.0.0, a.0.1) (c, rest) a.2 in
+          let t = text_field.took (b ∷ bytes) a.0.0 a.0.1 a.1 in (
+            t.0,
+            t.1 ∙ ap (λ (q : Option (List ℕ) × List ℕ). t.0 ++ q.1) p,
+            subst (λ (o : Option (List ℕ)). IsCell o t.0) (ap (λ (q : Option (List ℕ) × List ℕ). q.0) p) t.2,
+          )
     ]
 
 cell_text : (b : ℕ) (bytes : List ℕ) → b ≢ 0xFB → cell_at (b ∷ bytes) ≡ (text_at (b ∷ bytes) >>= λ t. Ok (Some t.0, t.1))
@@ -476,10 +470,10 @@ cell_stuck [] left fits e =
     record { before = []; after = []; split = refl; left_is = sym none; begins = cell_begins; bad = λ b more next begun. (let f : [] ≡ b ∷ more = next in cc) }
 cell_stuck (b ∷ bytes) left fits e =
     elim (chosen (b == 0xFB) (Ok (None, bytes)) (text_at (b ∷ bytes) >>= λ t. Ok (Some t.0, t.1)) (Err left) e) [
-      inl h ↦ absurd (let f : Ok (None, bytes) ≡ Err left = h.1 in cc)
-    | inr h ↦ elim (bind_err (text_at (b ∷ bytes)) (λ t. Ok (Some t.0, t.1)) left h.1) [
-        inl f ↦ cell_stuck_text b bytes left (eqb-false b 0xFB h.0) (text_field.stuck (b ∷ bytes) left fits f)
-      | inr f ↦ absurd (let g : Ok (Some f.0.0, f.0.1) ≡ Err left = f.2 in cc)
+      | inl h ↦ absurd (let f : Ok (None, bytes) ≡ Err left = h.1 in cc)
+      | inr h ↦ elim (bind_err (text_at (b ∷ bytes)) (λ t. Ok (Some t.0, t.1)) left h.1) [
+        | inl f ↦ cell_stuck_text b bytes left (eqb-false b 0xFB h.0) (text_field.stuck (b ∷ bytes) left fits f)
+        | inr f ↦ absurd (let g : Ok (Some f.0.0, f.0.1) ≡ Err left = f.2 in cc)
       ]
     ]
 
