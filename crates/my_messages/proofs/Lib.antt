@@ -1,3 +1,4 @@
+pub mod Accepts
 pub mod BadPlaces
 pub mod Forms
 pub mod Joined

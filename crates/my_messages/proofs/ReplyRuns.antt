@@ -113,7 +113,7 @@ first_message = same_message FirstForm IsFirst first_at form_first first_form fi
 
 -- ---- a row or the end
 
-eof_size : (status : ℕ) (bytes : List ℕ) → IsEofPacket status bytes → (length bytes ≡ 5) × ((rest : List ℕ) × (bytes ≡ 0xFE ∷ rest))
+pub eof_size : (status : ℕ) (bytes : List ℕ) → IsEofPacket status bytes → (length bytes ≡ 5) × ((rest : List ℕ) × (bytes ≡ 0xFE ∷ rest))
 eof_size status bytes t =
     let n = t.second.second in
     let a = length-append t.front t.rest in
@@ -135,7 +135,7 @@ number_size (b ∷ front) more n (inl h) rest is = let same : b ≡ 0xFE = cc in
 number_size (b ∷ front) more n (inr h) rest is = let same : b ≡ 0xFE = cc in let e : Some 8 ≡ Some (length front) = ap width_of (sym same) ∙ h.0 in let k : 8 ≡ length front = cc in omega (arith, k)
 
 -- a row that begins with FE has nine bytes or more
-row_size : (n : ℕ) (cells : List (Option (List ℕ))) (bytes rest : List ℕ) → IsRowOf n cells bytes → bytes ≡ 0xFE ∷ rest → 8 < length bytes
+pub row_size : (n : ℕ) (cells : List (Option (List ℕ))) (bytes rest : List ℕ) → IsRowOf n cells bytes → bytes ≡ 0xFE ∷ rest → 8 < length bytes
 row_size n [] bytes rest h is = absurd (let e : 0xFE ∷ rest ≡ [] = sym is ∙ h.1 in cc)
 row_size n (None ∷ cells) bytes rest h is =
     let t = h.1 in

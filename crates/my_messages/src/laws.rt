@@ -14,11 +14,12 @@ pub fn payloads_have_one_command()
     ensures { (payload : List ℕ) (c d : Command) → IsCommand c payload → IsCommand d payload → c ≡ d }
 {}
 
-/// The payloads that a reader took lead to its stage; a reply that it gives is the one that they spell; and a refusal
-/// tells the first byte that no payload in that stage with the same earlier bytes has.
+/// The payloads that a reader took lead to its stage; a reply that it gives is the one that they spell; whatever payload
+/// may follow them in a reply is one that the stage admits; and a refusal tells the first byte that no payload in that stage with the same earlier bytes has.
 pub fn replies_are_read()
     ensures begun { LeadsTo [] stages.First }
     ensures goes { (payloads : List (List ℕ)) (s t : Stage) (payload : List ℕ) → LeadsTo payloads s → push_at s payload ≡ Goes t → LeadsTo (payloads ++ payload ∷ []) t }
     ensures gives { (payloads : List (List ℕ)) (s : Stage) (payload : List ℕ) (reply : Reply) → LeadsTo payloads s → push_at s payload ≡ Gives reply → IsReply reply (payloads ++ payload ∷ []) }
+    ensures accepts { (payloads more : List (List ℕ)) (s : Stage) (payload : List ℕ) (reply : Reply) → LeadsTo payloads s → IsReply reply (payloads ++ payload ∷ more) → Admits s payload }
     ensures stops { (payloads : List (List ℕ)) (s : Stage) (payload : List ℕ) (place : ℕ) → LeadsTo payloads s → IsBytes payload → push_at s payload ≡ Stops place → FirstBad (λ (u : Unit {0}) (bytes : List ℕ). Admits s bytes) payload place }
 {}
