@@ -1,17 +1,16 @@
 -- The payloads of a reply are never refused.
-use Rattle.std.proofs.Common.{◌≡◌, ◌≢◌, ℕ, zero, suc, ◌+◌, ◌-◌, ◌<◌, ◌≤◌, ◌⊎◌, List, [], ◌∷◌, ◌++◌, length, Option, Some, None, Result, Ok, Err, refl, sym, ap, subst, ◌∙◌, append_assoc, inl, inr, arith}
+use Rattle.std.proofs.Common.{◌≡◌, ℕ, zero, suc, ◌+◌, ◌≤◌, ◌⊎◌, List, [], ◌∷◌, ◌++◌, length, Option, refl, sym, ap, subst, ◌∙◌, append_assoc, inl, inr, arith}
 use Rattle.std.proofs.lemmas.Bool.{cases_lt}
 use Rattle.std.proofs.lemmas.List.{length-append}
-use Rattle.my_wire.proofs.Fields.{IsMessage, ok_is}
+use Rattle.my_wire.proofs.Fields.{ok_is}
 use Rattle.my_messages.specs.Reading.{count_at}
 use Rattle.my_messages.specs.Reply.{IsEofPacket, IsColumnCount, IsDefinition, IsRowOf, Each, IsResultset, IsReply}
-use Rattle.my_messages.specs.Replies.{IsFirst, IsRowOrEnd, Admits, InDefinitions, InRows, LeadsTo}
+use Rattle.my_messages.specs.Replies.{IsFirst, Admits, InRows, LeadsTo}
 use Rattle.my_messages.specs.declared.reply.Column.{Column}
 use Rattle.my_messages.specs.declared.reply.Reply.{Reply}
 use Rattle.my_messages.specs.declared.reply.Reply.TheVariants as replies
 use Rattle.my_messages.specs.declared.stage.FirstPayload.{FirstPayload}
 use Rattle.my_messages.specs.declared.stage.FirstPayload.TheVariants.{Whole, Columns}
-use Rattle.my_messages.specs.declared.stage.RowPayload.{RowPayload}
 use Rattle.my_messages.specs.declared.stage.RowPayload.TheVariants.{Row, End}
 use Rattle.my_messages.specs.declared.stage.Stage.{Stage}
 use Rattle.my_messages.specs.declared.stage.Stage.TheVariants as stages
@@ -28,8 +27,8 @@ cuts (z ∷ a) x b (w ∷ c) y d e le =
     let heads : z ≡ w = cc in
     let tails : a ++ x ∷ b ≡ c ++ y ∷ d = cc in
     elim (cuts a x b c y d tails (omega arith)) [
-      inl h ↦ inl (ap (λ l. z ∷ l) h.0 ∙ ap (λ k. k ∷ c) heads, h.1, h.2)
-    | inr h ↦ inr (h.0, ap (λ l. w ∷ l) h.1 ∙ ap (λ k. k ∷ (a ++ x ∷ h.0)) (sym heads))
+      | inl h ↦ inl (ap (λ l. z ∷ l) h.0 ∙ ap (λ k. k ∷ c) heads, h.1, h.2)
+      | inr h ↦ inr (h.0, ap (λ l. w ∷ l) h.1 ∙ ap (λ k. k ∷ (a ++ x ∷ h.0)) (sym heads))
     ]
 
 Each-length : {X : Type 0} (P : X → List ℕ → Type 0) (xs : List X) (ps : List (List ℕ)) → Each P xs ps → length ps ≡ length xs
@@ -86,8 +85,8 @@ definitions_accept zero columns count definitions p more counted defined m =
     let a = Each-length IsDefinition columns definitions defined in
     let b = Each-length IsDefinition m.columns k.definitions k.defined in
     elim (cuts definitions p more k.definitions k.first_end (k.row_payloads ++ k.last_end ∷ []) (same_rest count (definitions ++ p ∷ more) m) (omega (arith, n, a, b))) [
-      inl h ↦ (k.first_status, subst (IsEofPacket k.first_status) (sym h.1) k.definitions_end)
-    | inr h ↦ absurd (let c = ap length h.1 in let d = length-append definitions (p ∷ h.0) in omega (arith, n, a, b, c, d))
+      | inl h ↦ (k.first_status, subst (IsEofPacket k.first_status) (sym h.1) k.definitions_end)
+      | inr h ↦ absurd (let c = ap length h.1 in let d = length-append definitions (p ∷ h.0) in omega (arith, n, a, b, c, d))
     ]
 definitions_accept (suc owed) columns count definitions p more counted defined m =
     let k = m.result in
@@ -95,8 +94,8 @@ definitions_accept (suc owed) columns count definitions p more counted defined m
     let a = Each-length IsDefinition columns definitions defined in
     let b = Each-length IsDefinition m.columns k.definitions k.defined in
     elim (cuts definitions p more k.definitions k.first_end (k.row_payloads ++ k.last_end ∷ []) (same_rest count (definitions ++ p ∷ more) m) (omega (arith, n, a, b))) [
-      inl h ↦ absurd (let c = ap length h.0 in omega (arith, n, a, b, c))
-    | inr h ↦ Each-middle IsDefinition m.columns definitions p h.0 (subst (Each IsDefinition m.columns) h.1 k.defined)
+      | inl h ↦ absurd (let c = ap length h.0 in omega (arith, n, a, b, c))
+      | inr h ↦ Each-middle IsDefinition m.columns definitions p h.0 (subst (Each IsDefinition m.columns) h.1 k.defined)
     ]
 
 rows_accept : (columns : List Column) (rows : List (List (Option (List ℕ)))) (r : Reply) (ps : List (List ℕ)) (p : List ℕ) (more : List (List ℕ)) → (s : InRows columns rows ps) → Meets s.count ((s.definitions ++ s.first_end ∷ s.row_payloads) ++ p ∷ more)
@@ -108,27 +107,27 @@ rows_accept columns rows r ps p more s m =
     let a = Each-length IsDefinition columns s.definitions s.defined in
     let b = Each-length IsDefinition m.columns k.definitions k.defined in
     let regrouped : s.definitions ++ s.first_end ∷ (s.row_payloads ++ p ∷ more) ≡ k.definitions ++ k.first_end ∷ (k.row_payloads ++ k.last_end ∷ []) =
-        sym (append_assoc s.definitions (s.first_end ∷ s.row_payloads) (p ∷ more)) ∙ same_rest s.count all m in
+    sym (append_assoc s.definitions (s.first_end ∷ s.row_payloads) (p ∷ more)) ∙ same_rest s.count all m in
     let rest : s.row_payloads ++ p ∷ more ≡ k.row_payloads ++ k.last_end ∷ [] =
-        elim (cuts s.definitions s.first_end (s.row_payloads ++ p ∷ more) k.definitions k.first_end (k.row_payloads ++ k.last_end ∷ []) regrouped (omega (arith, n, a, b))) [
-          inl h ↦ h.2
-        | inr h ↦ absurd (let c = ap length h.1 in let d = length-append s.definitions (s.first_end ∷ h.0) in omega (arith, n, a, b, c, d))
-        ] in
+    elim (cuts s.definitions s.first_end (s.row_payloads ++ p ∷ more) k.definitions k.first_end (k.row_payloads ++ k.last_end ∷ []) regrouped (omega (arith, n, a, b))) [
+      | inl h ↦ h.2
+      | inr h ↦ absurd (let c = ap length h.1 in let d = length-append s.definitions (s.first_end ∷ h.0) in omega (arith, n, a, b, c, d))
+    ] in
     elim (cases_lt (length k.row_payloads) (length s.row_payloads)) [
-      inl lt ↦ elim (cuts k.row_payloads k.last_end [] s.row_payloads p more (sym rest) (omega arith)) [
-        inl h ↦ absurd (let c = ap length h.0 in omega (arith, c))
-      | inr h ↦
-          let row = Each-middle (IsRowOf (length columns)) rows k.row_payloads k.last_end h.0 (subst (Each (IsRowOf (length columns)) rows) h.1 s.rows_are) in
-          let e = eof_size m.status k.last_end k.rows_end in
-          let five = e.0 in
-          let nine = row_size (length columns) row.0 k.last_end e.1.0 row.1 e.1.1 in
-          absurd (omega arith)
+      | inl lt ↦ elim (cuts k.row_payloads k.last_end [] s.row_payloads p more (sym rest) (omega arith)) [
+        | inl h ↦ absurd (let c = ap length h.0 in omega (arith, c))
+        | inr h ↦
+            let row = Each-middle (IsRowOf (length columns)) rows k.row_payloads k.last_end h.0 (subst (Each (IsRowOf (length columns)) rows) h.1 s.rows_are) in
+            let e = eof_size m.status k.last_end k.rows_end in
+            let five = e.0 in
+            let nine = row_size (length columns) row.0 k.last_end e.1.0 row.1 e.1.1 in
+            absurd (omega arith)
       ]
-    | inr le ↦ elim (cuts s.row_payloads p more k.row_payloads k.last_end [] rest le) [
-        inl h ↦ (End m.status, subst (IsEofPacket m.status) (sym h.1) k.rows_end)
-      | inr h ↦
-          let row = Each-middle (IsRowOf (length m.columns)) m.rows s.row_payloads p h.0 (subst (Each (IsRowOf (length m.columns)) m.rows) h.1 k.rows_are) in
-          (Row row.0, subst (λ (w : ℕ). IsRowOf w row.0 p) (sym n) row.1)
+      | inr le ↦ elim (cuts s.row_payloads p more k.row_payloads k.last_end [] rest le) [
+        | inl h ↦ (End m.status, subst (IsEofPacket m.status) (sym h.1) k.rows_end)
+        | inr h ↦
+            let row = Each-middle (IsRowOf (length m.columns)) m.rows s.row_payloads p h.0 (subst (Each (IsRowOf (length m.columns)) m.rows) h.1 k.rows_are) in
+            (Row row.0, subst (λ (w : ℕ). IsRowOf w row.0 p) (sym n) row.1)
       ]
     ]
 

@@ -7,3 +7,4 @@ pub mod ReplyRuns
 pub mod Rows
 pub mod Texts
 pub mod Utf8Steps
+pub mod Written

@@ -146,7 +146,7 @@ zero_field =
 ascii_step : (x y z b : ℕ) → x < 128 → y < 128 → z < 128 → b < 128 → Step x y z b
 ascii_step x y z b p q r s = first (omega arith, omega arith, omega arith) (inl s)
 
-def_is_text : IsUtf8 (codes "def")
+pub def_is_text : IsUtf8 (codes "def")
 def_is_text =
     steps_utf8 (codes "def") (
       ascii_step 0 0 0 100 (omega arith) (omega arith) (omega arith) (omega arith),

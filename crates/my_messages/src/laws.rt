@@ -2,7 +2,7 @@
 ghost use Rattle.std.specs.Prelude.{◌≡◌, ℕ, ◌++◌, ◌∷◌, [], List};
 ghost use Rattle.my_wire.specs.Grammar.{IsBytes, FirstBad};
 ghost use Rattle.my_messages.specs.Command.{IsCommand};
-ghost use Rattle.my_messages.specs.Reply.{IsReply};
+ghost use Rattle.my_messages.specs.Reply.{HasBytes, IsReply, IsReplyValue, payloads_of};
 ghost use Rattle.my_messages.specs.Replies.{Goes, Gives, Stops, push_at, LeadsTo, Admits};
 ghost use Rattle.my_messages.specs.declared.command.Command.{Command};
 ghost use Rattle.my_messages.specs.declared.reply.Reply.{Reply};
@@ -22,4 +22,9 @@ pub fn replies_are_read()
     ensures gives { (payloads : List (List ℕ)) (s : Stage) (payload : List ℕ) (reply : Reply) → LeadsTo payloads s → push_at s payload ≡ Gives reply → IsReply reply (payloads ++ payload ∷ []) }
     ensures accepts { (payloads more : List (List ℕ)) (s : Stage) (payload : List ℕ) (reply : Reply) → LeadsTo payloads s → IsReply reply (payloads ++ payload ∷ more) → Admits s payload }
     ensures stops { (payloads : List (List ℕ)) (s : Stage) (payload : List ℕ) (place : ℕ) → LeadsTo payloads s → IsBytes payload → push_at s payload ≡ Stops place → FirstBad (λ (u : Unit {0}) (bytes : List ℕ). Admits s bytes) payload place }
+{}
+
+/// The payloads that are written of a reply are that reply.
+pub fn replies_are_written()
+    ensures { (reply : Reply) → HasBytes reply → IsReplyValue reply → IsReply reply (payloads_of reply) }
 {}
