@@ -1,7 +1,8 @@
 -- Replies out of the payloads of their packets.
-use Rattle.std.specs.Prelude.{◌≡◌, ℕ, zero, suc, ◌-◌, List, [], ◌∷◌, ◌++◌, length, Option, Some, None, Result, Ok, Err}
+use Rattle.std.specs.Prelude.{◌≡◌, ℕ, zero, suc, ◌+◌, ◌-◌, List, [], ◌∷◌, ◌++◌, length, Option, Some, None, Result, Ok, Err}
 use Rattle.my_wire.specs.Grammar.{◌>>=◌}
 use Rattle.my_messages.specs.Reading.{or_else, ok_at, err_at, count_at, switch_at, eof_at, definition_at, cells_at}
+use Rattle.my_messages.specs.Reply.{IsOkPacket, IsErrPacket, IsEofPacket, IsSwitchRequest, IsColumnCount, IsDefinition, IsRowOf, Each}
 use Rattle.my_messages.specs.declared.fault.MessageFault.{MessageFault}
 use Rattle.my_messages.specs.declared.fault.MessageFault.TheVariants as faults
 use Rattle.my_messages.specs.declared.reply.Column.{Column}
@@ -66,3 +67,52 @@ Tells old payload (Ok None) new = push_at old payload ≡ Goes new
 Tells old payload (Ok (Some reply)) new = (push_at old payload ≡ Gives reply) × (new ≡ stages.First)
 Tells old payload (Err (faults.Malformed place)) new = (push_at old payload ≡ Stops place) × (new ≡ stages.Refused place)
 Tells old payload (Err faults.NoMemory) new = new ≡ old
+
+-- the first payload of a reply
+abbrev pub IsFirst : FirstPayload → List ℕ → Type 0
+IsFirst (Whole (replies.Ok affected status warnings)) bytes = IsOkPacket affected status warnings bytes
+IsFirst (Whole (replies.Err number state message)) bytes = IsErrPacket number state message bytes
+IsFirst (Whole (replies.Rows columns rows status)) bytes = ⊥
+IsFirst (Whole (replies.Switch plugin nonce)) bytes = IsSwitchRequest plugin nonce bytes
+IsFirst (Columns count) bytes = IsColumnCount count bytes
+
+-- a payload behind the definitions of so many columns
+abbrev pub IsRowOrEnd : ℕ → RowPayload → List ℕ → Type 0
+IsRowOrEnd width (Row cells) bytes = IsRowOf width cells bytes
+IsRowOrEnd width (End status) bytes = IsEofPacket status bytes
+
+-- a payload that may come in a stage
+abbrev pub Admits : Stage → List ℕ → Type 0
+Admits stages.First bytes = (x : FirstPayload) × IsFirst x bytes
+Admits (stages.Definitions zero columns) bytes = (status : ℕ) × IsEofPacket status bytes
+Admits (stages.Definitions (suc owed) columns) bytes = (column : Column) × IsDefinition column bytes
+Admits (stages.Rows columns rows) bytes = (x : RowPayload) × IsRowOrEnd (length columns) x bytes
+Admits (stages.Refused place) bytes = ⊥
+
+-- the payloads of a result so far, of which so many definitions are owed
+pub record InDefinitions (owed : ℕ) (columns : List Column) (payloads : List (List ℕ)) : Type 0 where
+  pub count : List ℕ
+  pub definitions : List (List ℕ)
+  pub whole : payloads ≡ count ∷ definitions
+  pub counted : IsColumnCount (length columns + owed) count
+  pub defined : Each IsDefinition columns definitions
+
+-- the payloads of a result so far, behind its definitions
+pub record InRows (columns : List Column) (rows : List (List (Option (List ℕ)))) (payloads : List (List ℕ)) : Type 0 where
+  pub count : List ℕ
+  pub definitions : List (List ℕ)
+  pub first_end : List ℕ
+  pub row_payloads : List (List ℕ)
+  pub first_status : ℕ
+  pub whole : payloads ≡ count ∷ (definitions ++ first_end ∷ row_payloads)
+  pub counted : IsColumnCount (length columns) count
+  pub defined : Each IsDefinition columns definitions
+  pub definitions_end : IsEofPacket first_status first_end
+  pub rows_are : Each (IsRowOf (length columns)) rows row_payloads
+
+-- the payloads that came since the last whole reply lead to that stage
+abbrev pub LeadsTo : List (List ℕ) → Stage → Type 0
+LeadsTo payloads stages.First = payloads ≡ []
+LeadsTo payloads (stages.Definitions owed columns) = InDefinitions owed columns payloads
+LeadsTo payloads (stages.Rows columns rows) = InRows columns rows payloads
+LeadsTo payloads (stages.Refused place) = ⊥

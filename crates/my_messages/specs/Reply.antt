@@ -1,5 +1,5 @@
 -- What a server answers: Generic Response Packets, Protocol::AuthSwitchRequest, COM_QUERY Response and Text Resultset.
-use Rattle.std.specs.Prelude.{◌≡◌, ℕ, ◌<◌, ◌≤◌, List, [], ◌∷◌, ◌++◌, length, map, Option, Some, None, codes}
+use Rattle.std.specs.Prelude.{◌≡◌, ℕ, ◌^◌, ◌<◌, ◌≤◌, List, [], ◌∷◌, ◌++◌, length, map, Option, Some, None, codes, IsUtf8}
 use Rattle.std.specs.List.{AllByRecursion}
 use Rattle.byteorder.specs.Endian.{little_bytes}
 use Rattle.my_wire.specs.Grammar.{◌▷◌, IsEnd, IsExactly}
@@ -139,3 +139,30 @@ HasBytes (replies.Ok affected status warnings) = Unit {0}
 HasBytes (replies.Err number state message) = length (err_bytes number state message) ≤ most
 HasBytes (replies.Rows columns rows status) = (0 < length columns) × AllByRecursion DefinitionFits columns × AllByRecursion (RowFits (length columns)) rows
 HasBytes (replies.Switch plugin nonce) = HasNoNul plugin × (length (switch_bytes plugin nonce) ≤ most)
+
+-- a text as a program holds it
+abbrev pub IsTextValue : List ℕ → Type 0
+IsTextValue text = IsUtf8 text × (length text < 2 ^ 64)
+
+-- a column as a program holds it
+pub record IsColumnValue (c : Column) : Type 0 where
+  pub schema : IsTextValue c.schema
+  pub table : IsTextValue c.table
+  pub org_table : IsTextValue c.org_table
+  pub name : IsTextValue c.name
+  pub org_name : IsTextValue c.org_name
+  pub charset : c.charset < 2 ^ 16
+  pub width : c.length < 2 ^ 32
+  pub kind : c.kind < 2 ^ 8
+  pub flags : c.flags < 2 ^ 16
+
+abbrev pub IsCellValue : Option (List ℕ) → Type 0
+IsCellValue None = Unit {0}
+IsCellValue (Some text) = IsTextValue text
+
+-- a reply as a program holds it
+abbrev pub IsReplyValue : Reply → Type 0
+IsReplyValue (replies.Ok affected status warnings) = (affected < 2 ^ 64) × (status < 2 ^ 16) × (warnings < 2 ^ 16)
+IsReplyValue (replies.Err number state message) = (number < 2 ^ 16) × (length state ≡ 5) × IsUtf8 message
+IsReplyValue (replies.Rows columns rows status) = (length columns < 2 ^ 64) × AllByRecursion IsColumnValue columns × AllByRecursion (AllByRecursion IsCellValue) rows × (status < 2 ^ 16)
+IsReplyValue (replies.Switch plugin nonce) = IsUtf8 plugin × (length nonce ≡ 20)

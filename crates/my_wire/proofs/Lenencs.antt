@@ -250,3 +250,25 @@ lenenc_shortest n (first ∷ more) fits (inr h) =
       | inl w ↦ let b = bound 2 w in omega (arith, written_two n (omega arith))
       | inr r ↦ elim r [ inl w ↦ let b = bound 3 w in omega (arith, written_three n (omega arith)) | inr w ↦ omega (arith, written n) ]
     ]
+
+-- up to the last byte of a number, one that isn't 0 may stand there
+pub lenenc_front : (bytes : List ℕ) (v u : ℕ) → lenenc_at bytes ≡ Number v u → (0 < u) × Begins (λ (n : ℕ) (whole : List ℕ). IsLenenc whole n × (0 < n)) (take (u - 1) bytes)
+lenenc_front [] v u e = absurd cc
+lenenc_front (first ∷ more) v u e =
+    elim (chosen (nat_lt first 251) (Number first 1) (cond (first == 0xFB) Null (wide_at (width_of first) more)) (Number v u) e) [
+      | inl h ↦
+          let k : Number first 1 ≡ Number v u = h.1 in
+          let used : 1 ≡ u = cc in
+          (omega (arith, used), subst (λ (m : ℕ). Begins (λ (n : ℕ) (whole : List ℕ). IsLenenc whole n × (0 < n)) (take (m - 1) (first ∷ more))) used one_positive)
+      | inr h ↦ elim (chosen (first == 0xFB) Null (wide_at (width_of first) more) (Number v u) h.1) [
+        | inl i ↦ absurd (let k : Null ≡ Number v u = i.1 in cc)
+        | inr i ↦
+            let w = wide_found (width_of first) more v u i.1 in
+            let some = (has_width first w.0 w.1).some in
+            let g = w.4 in
+            let sized = length-take (w.0 - 1) more in
+            let p = wide_positive first w.0 (take (w.0 - 1) more) w.1 (omega (arith, sized)) in
+            let k : suc (w.0 - 1) ≡ u - 1 = omega (arith, g) in
+            (omega (arith, g), subst (λ (m : ℕ). Begins (λ (n : ℕ) (whole : List ℕ). IsLenenc whole n × (0 < n)) (take m (first ∷ more))) k p)
+      ]
+    ]
