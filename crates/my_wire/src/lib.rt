@@ -1,4 +1,8 @@
-//! Where bytes come from and go to.
+//! The wire: where bytes come from and go to, and packets in them.
+//!
+//! [`PacketReader`] takes a stream in pieces of any size and gives its packets, each cut out of one buffer once;
+//! [`write_packet`] writes one, and [`read_lenenc`] and [`write_lenenc`] their length-encoded numbers. The payloads that a reader has
+//! given, with the bytes that it holds, are the stream that it was fed, however that was cut ([`payloads_are_the_stream`]).
 //!
 //! [`Source`] and [`Sink`] are what a program reads and writes, [`Files`] where it finds its files. Each is a trait whose
 //! meaning is a relation between two states ("from this state to that one these bytes were given"), with a count of
