@@ -1,0 +1,4 @@
+pub mod Rows
+pub mod Backend
+pub mod Network
+pub mod Protocol

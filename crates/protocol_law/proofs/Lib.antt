@@ -1,0 +1,9 @@
+pub mod Branches
+pub mod Logs
+pub mod Effects
+pub mod Locks
+pub mod Traffic
+pub mod Matched
+pub mod Serial
+pub mod Waiting
+pub mod Runs
