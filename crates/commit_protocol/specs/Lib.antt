@@ -2,3 +2,4 @@ pub mod Rows
 pub mod Backend
 pub mod Network
 pub mod Protocol
+pub mod Links

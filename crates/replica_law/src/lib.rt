@@ -1,0 +1,2 @@
+//! The laws of redundant links.
+#![tactic(auto)]
