@@ -1,1 +1,4 @@
 pub mod Present
+pub mod Notes
+pub mod Agree
+pub mod Moves

@@ -1,0 +1,286 @@
+-- Each link that counts has the plain tables' rows, and the decided transactions are a run of the plain tables: what a decision has to
+-- show, for statements and for a copy's batch.
+use Rattle.std.proofs.Common.{◌≡◌, ◌≢◌, ℕ, Bool, true, false, cond, ◌&&◌, ◌||◌, ◌+◌, eqb, leb, List, [], ◌∷◌, Option, Some, None, refl, sym, ap, ◌∙◌, subst, arith, ◌⊎◌, inl, inr, ⊎_elim, eqb-true}
+use Rattle.std.proofs.lemmas.Bool.Decides.{nat_tests}
+use Rattle.std.proofs.lemmas.Bool.{cases_Bool, cases_eq}
+use Rattle.commit_protocol.specs.Rows.{Key, Table, Interval, Operation, is_within, is_in_one, after, AreRight}
+use Rattle.commit_protocol.specs.Network.{Topology}
+use Rattle.commit_protocol.specs.Protocol.{World, Transaction, Decision, Step, has_member, is_member, are_ready, done_on, done_at, decided_rows}
+use Rattle.commit_protocol.specs.Links.{Plain, Placement, Went, Note, Link, Status, Cursor, Mark, Matter, CopyBatch, EndsAt, at_link, lies, seen_in, written, plain_after, plain, IsPlainRun, IsPlainSerial, is_ok, is_recovery, is_ng, reaches_key, is_below, is_copied, comes_to, has_by, went_to, went_in, all_of, all_sent, notes_sent, links_of, AreWritten, protects, one_protects, are_protected, Follows, batch_notes, batch_mark}
+use Rattle.commit_protocol.specs.Links.Note.{Read, Write}
+use Rattle.commit_protocol.specs.Links.Status.{OK, RECOVERY, NG}
+use Rattle.commit_protocol.specs.Links.Cursor.{Nothing, Up_to, All}
+use Rattle.protocol_law.proofs.Serial.{member_of, none_at}
+use Rattle.replica_law.proofs.Present.{ArePresent, present_went, present_protects}
+use Rattle.replica_law.proofs.Notes.{AllWent, NoneWent, NoneOf, Before, same_plain, of_went, none_of_after, follows_after, follows_none, follows_tail, follows_read}
+
+-- ---- what holds of links, marks, history and book
+
+-- fresh: no batch is marked with an epoch that is still to come
+pub record Holds (f : Topology) (p : Placement) (link : ℕ → Link) (marks : List Mark) (history : List Decision) (book : List (List Note)) : Type 0 where
+  pub good : (l k : ℕ) → has_by marks l (link l) (link l).status k ≡ true → p.partition k ≡ p.of l → decided_rows f (p.at l) history (at_link l k) ≡ plain p book k
+  pub serial : IsPlainSerial p book
+  pub fresh : (l e k : ℕ) → leb e (link l).epoch ≡ false → is_copied marks l e k ≡ false
+
+pub ok_has : (ms : List Mark) (l : ℕ) (n : Link) (s : Status) (k : ℕ) → is_ok s ≡ true → has_by ms l n s k ≡ true
+ok_has ms l n OK k h = refl
+ok_has ms l n RECOVERY k h = cc
+ok_has ms l n NG k h = cc
+
+pub recovery_has : (ms : List Mark) (l : ℕ) (n : Link) (s : Status) (k : ℕ) → is_recovery s ≡ true → has_by ms l n s k ≡ is_copied ms l n.epoch k
+recovery_has ms l n OK k h = cc
+recovery_has ms l n RECOVERY k h = refl
+recovery_has ms l n NG k h = cc
+
+has_not_ng : (ms : List Mark) (l : ℕ) (n : Link) (s : Status) (k : ℕ) → has_by ms l n s k ≡ true → is_ng s ≡ false
+has_not_ng ms l n OK k h = refl
+has_not_ng ms l n RECOVERY k h = refl
+has_not_ng ms l n NG k h = cc
+
+ok_not_ng : (s : Status) → is_ok s ≡ true → is_ng s ≡ false
+ok_not_ng OK h = refl
+ok_not_ng RECOVERY h = cc
+ok_not_ng NG h = cc
+
+-- ---- the writes of a transaction that may be decided
+
+all_went : (f : Topology) (p : Placement) (link : ℕ → Link) (ms : List ℕ) (line asked : ℕ → Option ℕ) (l c : ℕ) (hs : List Went) (notes : List Note) → AreWritten f p link ms notes → notes_sent notes hs ≡ true → ArePresent p link line asked hs
+    → is_ng (link l).status ≡ false → asked (p.at l) ≡ Some c → AllWent p l c notes
+all_went f p link ms line asked l c hs [] w s i n a = tt
+all_went f p link ms line asked l c hs (Read q keys look found links ∷ older) w s i n a = all_went f p link ms line asked l c hs older w (grind arith) i n a
+all_went f p link ms line asked l c hs (Write q keys rows links ∷ older) w s i n a = (
+  (λ e. present_went p link line asked l c links hs (w.1 l e n).0 (grind arith) a i),
+  (λ t. of_went p l c q links w.0 t),
+  all_went f p link ms line asked l c hs older w.2 (grind arith) i n a,
+)
+
+none_of : (f : Topology) (p : Placement) (link : ℕ → Link) (ms : List ℕ) (l : ℕ) (notes : List Note) → AreWritten f p link ms notes → is_ng (link l).status ≡ false → has_member f (p.at l) ms ≡ false → NoneOf p l notes
+none_of f p link ms l [] w n m = tt
+none_of f p link ms l (Read q keys look found links ∷ older) w n m = none_of f p link ms l older w n m
+none_of f p link ms l (Write q keys rows links ∷ older) w n m = ((λ e. let yes : has_member f (p.at l) ms ≡ true = (w.1 l e n).1 in cc (yes, m)), none_of f p link ms l older w.2 n m)
+
+-- ---- its reads
+
+-- what was done at an OK link on a member's connection, down to these notes
+pub record Done_there (f : Topology) (p : Placement) (table : ℕ → Table) (asked : ℕ → Option ℕ) (l : ℕ) (notes : List Note) : Type 0 where
+  pub on : ℕ
+  pub asked_on : asked (p.at l) ≡ Some on
+  pub before : Before p l on (table l) notes
+
+plain_run : (f : Topology) (p : Placement) (link : ℕ → Link) (ms : List ℕ) (line asked : ℕ → Option ℕ) (hs : List Went) (u : Plain) (table : ℕ → Table) (notes : List Note)
+    → ((l k : ℕ) → is_ok (link l).status ≡ true → p.partition k ≡ p.of l → table l (at_link l k) ≡ u k)
+    → ((l : ℕ) → is_ok (link l).status ≡ true → has_member f (p.at l) ms ≡ true → Done_there f p table asked l notes)
+    → ArePresent p link line asked hs → AreWritten f p link ms notes → notes_sent notes hs ≡ true → are_protected f p link ms notes ≡ true → IsPlainRun p u notes
+plain_run f p link ms line asked hs u table [] good there i w s r = tt
+plain_run f p link ms line asked hs u table (Write q keys rows links ∷ older) good there i w s r =
+    plain_run f p link ms line asked hs u table older good
+        (λ l ok m. let d = there l ok m in record { on = d.on; asked_on = d.asked_on; before = follows_tail p l d.on (table l) (Write q keys rows links) older d.before.ops d.before.follows d.before.right })
+        i w.2 (grind arith) r
+plain_run f p link ms line asked hs u table (Read q keys look found links ∷ older) good there i w s r =
+    let g = present_protects f p link ms q links (grind arith) in
+    let d = there g.0 g.1 g.3 in
+    let went : went_to g.0 d.on links ≡ true = present_went p link line asked g.0 d.on links hs g.4 (grind arith) d.asked_on i in
+    let k = follows_read p g.0 d.on (table g.0) q keys look found links older d.before.ops d.before.follows d.before.right went in (
+      k.1 ∙ ap look (same_plain _ _ (λ n. same g.0 g.1 g.2 d.on d.asked_on k.0 n (lies p q keys n) refl)),
+      plain_run f p link ms line asked hs u table older good
+          (λ l ok m. let e = there l ok m in record { on = e.on; asked_on = e.asked_on; before = follows_tail p l e.on (table l) (Read q keys look found links) older e.before.ops e.before.follows e.before.right })
+          i w (grind arith) (grind arith),
+    )
+  where
+    same : (l : ℕ) → is_ok (link l).status ≡ true → p.of l ≡ q → (c : ℕ) → asked (p.at l) ≡ Some c → (b : Before p l c (table l) older) → (n : ℕ) (v : Bool) → lies p q keys n ≡ v
+        → cond (lies p q keys n) (after (table l) b.ops (at_link l n)) None ≡ cond (lies p q keys n) (plain_after p u older n) None
+    same l ok of c a b n true e =
+        let placed : p.partition n ≡ p.of l = eqb-true (p.partition n) q (grind arith) ∙ sym of in
+        ap (λ z. cond (lies p q keys n) z None) (follows_after p l c (table l) u older b.ops n b.follows (all_went f p link ms line asked l c hs older w (grind arith) i (ok_not_ng _ ok) a) placed (good l n ok placed))
+    same l ok of c a b n false e = ap (λ v. cond v (after (table l) b.ops (at_link l n)) None) e ∙ sym (ap (λ v. cond v (plain_after p u older n) None) e)
+
+-- ---- what a decision shows
+
+-- what is known of a transaction whose members are ready, as its record is written
+pub record Standing (f : Topology) (p : Placement) (link : ℕ → Link) (line : ℕ → Option ℕ) (t : Transaction) (hs : List Went) (history : List Decision) (d : Decision) (notes : List Note) : Type 0 where
+  pub ready : are_ready f t d.members ≡ true
+  pub present : ArePresent p link line t.asked hs
+  pub right : (s : ℕ) → AreRight (decided_rows f s history) (done_at f s d.members d.log)
+  pub sent : notes_sent notes hs ≡ true
+  pub told : (l c : ℕ) → is_member c d.members ≡ true → f.home c ≡ p.at l → Follows p l c notes (done_on c d.log)
+
+-- what it did at a link on a member
+pub there : (f : Topology) (p : Placement) (link : ℕ → Link) (line : ℕ → Option ℕ) (t : Transaction) (hs : List Went) (history : List Decision) (d : Decision) (notes : List Note) → Standing f p link line t hs history d notes
+    → (l : ℕ) → has_member f (p.at l) d.members ≡ true → (c : ℕ) × (t.asked (p.at l) ≡ Some c) × (done_at f (p.at l) d.members d.log ≡ done_on c d.log) × Follows p l c notes (done_on c d.log) × AreRight (decided_rows f (p.at l) history) (done_on c d.log)
+there f p link line t hs history d notes i l m =
+    let c = member_of f t d.members (p.at l) d.log i.ready m in
+    (c.0, c.2, c.3, i.told l c.0 c.4 c.1, subst (λ z. AreRight (decided_rows f (p.at l) history) z) c.3 (i.right (p.at l)))
+
+pub statements_hold : (f : Topology) (p : Placement) (link : ℕ → Link) (line : ℕ → Option ℕ) (t : Transaction) (hs : List Went) (history : List Decision) (d : Decision) (notes : List Note) (marks : List Mark) (book : List (List Note)) → Standing f p link line t hs history d notes
+    → AreWritten f p link d.members notes → are_protected f p link d.members notes ≡ true → Holds f p link marks history book → Holds f p link marks (d ∷ history) (notes ∷ book)
+statements_hold f p link line t hs history d notes marks book i writes reads h = record { good = good; serial = (run, h.serial); fresh = h.fresh }
+  where
+    good : (l k : ℕ) → has_by marks l (link l) (link l).status k ≡ true → p.partition k ≡ p.of l → after (decided_rows f (p.at l) history) (done_at f (p.at l) d.members d.log) (at_link l k) ≡ plain_after p (plain p book) notes k
+    good l k has e = ⊎_elim
+        (λ (m : has_member f (p.at l) d.members ≡ true).
+        let c = there f p link line t hs history d notes i l m in
+        ap (λ z. after (decided_rows f (p.at l) history) z (at_link l k)) c.2
+        ∙ follows_after p l c.0 (decided_rows f (p.at l) history) (plain p book) notes (done_on c.0 d.log) k c.3
+            (all_went f p link d.members line t.asked l c.0 hs notes writes i.sent i.present (has_not_ng marks l (link l) _ k has) c.1) e (h.good l k has e))
+        (λ (m : has_member f (p.at l) d.members ≡ false).
+        ap (λ z. after (decided_rows f (p.at l) history) z (at_link l k)) (none_at f d.members (p.at l) d.log m)
+        ∙ h.good l k has e ∙ sym (none_of_after p l (plain p book) notes k (none_of f p link d.members l notes writes (has_not_ng marks l (link l) _ k has) m) e))
+        (cases_Bool (has_member f (p.at l) d.members))
+
+    run : IsPlainRun p (plain p book) notes
+    run = plain_run f p link d.members line t.asked hs (plain p book) (λ l. decided_rows f (p.at l) history) notes
+        (λ l k ok e. h.good l k (ok_has marks l (link l) _ k ok) e)
+        (λ l ok m. let c = there f p link line t hs history d notes i l m in record { on = c.0; asked_on = c.1; before = record { ops = done_on c.0 d.log; follows = c.3; right = c.4 } })
+        i.present writes i.sent reads
+
+-- ---- copies
+
+below_reaches : (u : Cursor) (from k : ℕ) → is_below from u ≡ true → leb from k ≡ false → reaches_key u k ≡ true
+below_reaches Nothing from k b h = cc
+below_reaches (Up_to c) from k b h = grind (arith, nat_tests)
+below_reaches All from k b h = refl
+
+-- the keys below a batch's first were copied by earlier ones
+comes_copied : (ms : List Mark) (l e from k : ℕ) → comes_to ms l e from ≡ true → leb from k ≡ false → is_copied ms l e k ≡ true
+comes_copied [] l e from k c h = cc
+comes_copied (m ∷ ms) l e from k c h = ⊎_elim
+    (λ (t : (eqb m.link l && (eqb m.epoch e && is_below from m.upto)) ≡ true). let r : reaches_key m.upto k ≡ true = below_reaches m.upto from k (grind arith) h in grind (arith, r))
+    (λ (t : (eqb m.link l && (eqb m.epoch e && is_below from m.upto)) ≡ false). let r : is_copied ms l e k ≡ true = comes_copied ms l e from k (grind arith) h in grind (arith, r))
+    (cases_Bool (eqb m.link l && (eqb m.epoch e && is_below from m.upto)))
+
+ends_at : (p : Placement) (b : CopyBatch) (u : Cursor) (k : ℕ) → EndsAt p b u → reaches_key u k ≡ true → p.partition k ≡ p.of b.target.link → leb k b.keys.to ≡ true
+ends_at p b Nothing k e r h = cc
+ends_at p b (Up_to c) k e r h = ap (leb k) (sym e) ∙ r
+ends_at p b All k e r h = e k h
+
+-- what its marks reach a batch has copied itself, or earlier ones have
+pub reached : (p : Placement) (b : CopyBatch) (ms : List Mark) (k : ℕ) → (eqb b.keys.from 0 || comes_to ms b.target.link b.target.epoch b.keys.from) ≡ true → EndsAt p b b.upto → p.partition k ≡ p.of b.target.link → reaches_key b.upto k ≡ true
+    → (is_within b.keys k ≡ true) ⊎ ((is_within b.keys k ≡ false) × (is_copied ms b.target.link b.target.epoch k ≡ true))
+reached p b ms k begins ends e r = ⊎_elim
+    (λ (t : leb b.keys.from k ≡ true). let u : leb k b.keys.to ≡ true = ends_at p b b.upto k ends r e in inl (grind (arith, u)))
+    (λ (t : leb b.keys.from k ≡ false). inr (grind arith, comes_copied ms b.target.link b.target.epoch b.keys.from k (grind (arith, nat_tests)) t))
+    (cases_Bool (leb b.keys.from k))
+
+-- a batch's notes make its keys its rows
+batch_after : (p : Placement) (b : CopyBatch) (u : Plain) (k : ℕ) → ((n : ℕ) → is_in_one b.puts n ≡ false → is_in_one (b.keys ∷ []) n ≡ true → b.rows n ≡ None) → ((n : ℕ) → is_in_one b.puts n ≡ true → is_in_one (b.keys ∷ []) n ≡ true)
+    → p.partition k ≡ p.of b.target.link → plain_after p u (batch_notes p b) k ≡ cond (is_within b.keys k) (b.rows k) (u k)
+batch_after p b u k put within e = go (is_in_one b.puts k) (is_within b.keys k) refl refl
+  where
+    placed : eqb (p.partition k) (p.of b.target.link) ≡ true
+    placed = grind (arith, nat_tests)
+
+    go : (v w : Bool) → is_in_one b.puts k ≡ v → is_within b.keys k ≡ w
+        → cond (eqb (p.partition k) (p.of b.target.link) && is_in_one b.puts k) (b.rows k) (cond (eqb (p.partition k) (p.of b.target.link) && is_in_one (b.keys ∷ []) k) None (u k)) ≡ cond (is_within b.keys k) (b.rows k) (u k)
+    go true true m n = grind arith
+    go true false m n = let bad : is_in_one (b.keys ∷ []) k ≡ true = within k m in let no : is_in_one (b.keys ∷ []) k ≡ false = grind arith in cc (bad, no)
+    go false true m n = let gap : b.rows k ≡ None = put k m (grind arith) in grind (arith, gap)
+    go false false m n = grind arith
+
+-- what is known of a batch as its record is written
+pub record CopyStands (f : Topology) (p : Placement) (link : ℕ → Link) (marks : List Mark) (d : Decision) (b : CopyBatch) : Type 0 where
+  pub same : p.of b.source.link ≡ p.of b.target.link
+  pub source : protects f p link d.members (p.of b.source.link) b.source ≡ true
+  pub target : (is_recovery (link b.target.link).status && (eqb b.target.epoch (link b.target.link).epoch && has_member f (p.at b.target.link) d.members)) ≡ true
+  pub begins : (eqb b.keys.from 0 || comes_to marks b.target.link b.target.epoch b.keys.from) ≡ true
+  pub ends : EndsAt p b b.upto
+  pub put : (k : ℕ) → is_in_one b.puts k ≡ false → is_in_one (b.keys ∷ []) k ≡ true → b.rows k ≡ None
+  pub within : (k : ℕ) → is_in_one b.puts k ≡ true → is_in_one (b.keys ∷ []) k ≡ true
+
+pub batch_holds : (f : Topology) (p : Placement) (link : ℕ → Link) (line : ℕ → Option ℕ) (t : Transaction) (hs : List Went) (history : List Decision) (d : Decision) (b : CopyBatch) (marks : List Mark) (book : List (List Note)) → Standing f p link line t hs history d (batch_notes p b)
+    → CopyStands f p link marks d b → Holds f p link marks history book → Holds f p link (batch_mark b ∷ marks) (d ∷ history) ([] ∷ book)
+batch_holds f p link line t hs history d b marks book i c h = record { good = good; serial = (tt, h.serial); fresh = fresh }
+  where
+    table : ℕ → Table
+    table l = decided_rows f (p.at l) history
+
+    went_there : went_in b.target.link (link b.target.link).epoch (b.target ∷ []) ≡ true
+    went_there = grind (arith, nat_tests, c.target)
+
+    at_target : (q : ℕ) × (t.asked (p.at b.target.link) ≡ Some q) × (done_at f (p.at b.target.link) d.members d.log ≡ done_on q d.log) × Follows p b.target.link q (batch_notes p b) (done_on q d.log) × AreRight (table b.target.link) (done_on q d.log)
+    at_target = there f p link line t hs history d (batch_notes p b) i b.target.link (grind (arith, c.target))
+
+    at_source : (q : ℕ) × (t.asked (p.at b.source.link) ≡ Some q) × (done_at f (p.at b.source.link) d.members d.log ≡ done_on q d.log) × Follows p b.source.link q (batch_notes p b) (done_on q d.log) × AreRight (table b.source.link) (done_on q d.log)
+    at_source = there f p link line t hs history d (batch_notes p b) i b.source.link (grind (arith, c.source))
+
+    to_target : went_to b.target.link at_target.0 (b.target ∷ []) ≡ true
+    to_target = present_went p link line t.asked b.target.link at_target.0 (b.target ∷ []) hs went_there (grind (arith, i.sent)) at_target.1 i.present
+
+    to_source : went_to b.source.link at_source.0 (b.source ∷ []) ≡ true
+    to_source = present_went p link line t.asked b.source.link at_source.0 (b.source ∷ []) hs (grind (arith, nat_tests, c.source)) (grind (arith, i.sent)) at_source.1 i.present
+
+    -- the source's rows are the plain tables'
+    rows_are : (k : ℕ) → is_within b.keys k ≡ true → p.partition k ≡ p.of b.source.link → b.rows k ≡ plain p book k
+    rows_are k w e =
+        let one = follows_tail p b.source.link at_source.0 (table b.source.link) _ _ (done_on at_source.0 d.log) at_source.3 at_source.4 in
+        let two = follows_tail p b.source.link at_source.0 (table b.source.link) _ _ one.ops one.follows one.right in
+        let read = follows_read p b.source.link at_source.0 (table b.source.link) (p.of b.source.link) (b.keys ∷ []) (λ z. z) b.rows (b.source ∷ []) [] two.ops two.follows two.right to_source in
+        let inside : lies p (p.of b.source.link) (b.keys ∷ []) k ≡ true = grind (arith, nat_tests) in
+        ap (λ (z : Plain). z k) read.1
+        ∙ ap (λ v. cond v (after (table b.source.link) read.0.ops (at_link b.source.link k)) None) inside
+        ∙ follows_none p b.source.link at_source.0 (table b.source.link) [] read.0.ops k read.0.follows tt
+        ∙ h.good b.source.link k (ok_has marks b.source.link (link b.source.link) _ k (grind (arith, c.source))) e
+
+    -- what the destination has then
+    target_after : (k : ℕ) → p.partition k ≡ p.of b.target.link → after (table b.target.link) (done_at f (p.at b.target.link) d.members d.log) (at_link b.target.link k) ≡ cond (is_within b.keys k) (b.rows k) (table b.target.link (at_link b.target.link k))
+    target_after k e =
+        ap (λ z. after (table b.target.link) z (at_link b.target.link k)) at_target.2
+        ∙ follows_after p b.target.link at_target.0 (table b.target.link) (λ n. table b.target.link (at_link b.target.link n)) (batch_notes p b) (done_on at_target.0 d.log) k at_target.3
+            ((λ q. to_target), (λ q. refl), ((λ q. to_target), (λ q. refl), tt)) e refl
+        ∙ batch_after p b (λ n. table b.target.link (at_link b.target.link n)) k c.put c.within e
+
+    -- what is kept there was copied before
+    target_good : (k : ℕ) → has_by (batch_mark b ∷ marks) b.target.link (link b.target.link) (link b.target.link).status k ≡ true → p.partition k ≡ p.of b.target.link
+        → after (table b.target.link) (done_at f (p.at b.target.link) d.members d.log) (at_link b.target.link k) ≡ plain p book k
+    target_good k has e = target_after k e ∙ go (is_within b.keys k) refl
+      where
+        recovering : is_recovery (link b.target.link).status ≡ true
+        recovering = grind (arith, c.target)
+
+        now : b.target.epoch ≡ (link b.target.link).epoch
+        now = eqb-true _ _ (grind (arith, c.target))
+
+        copied : is_copied (batch_mark b ∷ marks) b.target.link (link b.target.link).epoch k ≡ true
+        copied = sym (recovery_has (batch_mark b ∷ marks) b.target.link (link b.target.link) _ k recovering) ∙ has
+
+        before : is_within b.keys k ≡ false → is_copied marks b.target.link (link b.target.link).epoch k ≡ true
+        before n = ⊎_elim
+            (λ (r : reaches_key b.upto k ≡ true). ⊎_elim
+            (λ (w : is_within b.keys k ≡ true). cc (w, n))
+            (λ (w : (is_within b.keys k ≡ false) × (is_copied marks b.target.link b.target.epoch k ≡ true)). ap (λ z. is_copied marks b.target.link z k) (sym now) ∙ w.1)
+            (reached p b marks k c.begins c.ends e r))
+            (λ (r : reaches_key b.upto k ≡ false). grind (arith, copied))
+            (cases_Bool (reaches_key b.upto k))
+
+        go : (v : Bool) → is_within b.keys k ≡ v → cond v (b.rows k) (table b.target.link (at_link b.target.link k)) ≡ plain p book k
+        go true w = rows_are k w (e ∙ sym c.same)
+        go false w = h.good b.target.link k (recovery_has marks b.target.link (link b.target.link) _ k recovering ∙ before w) e
+
+    -- other links are left
+    else_after : (l k : ℕ) → l ≢ b.target.link → after (table l) (done_at f (p.at l) d.members d.log) (at_link l k) ≡ table l (at_link l k)
+    else_after l k ne = ⊎_elim
+        (λ (m : has_member f (p.at l) d.members ≡ true).
+        let q = there f p link line t hs history d (batch_notes p b) i l m in
+        let away : went_to l q.0 (b.target ∷ []) ≡ false = grind (arith, nat_tests) in
+        ap (λ z. after (table l) z (at_link l k)) q.2 ∙ follows_none p l q.0 (table l) (batch_notes p b) (done_on q.0 d.log) k q.3 (away, (away, tt)))
+        (λ (m : has_member f (p.at l) d.members ≡ false). ap (λ z. after (table l) z (at_link l k)) (none_at f d.members (p.at l) d.log m))
+        (cases_Bool (has_member f (p.at l) d.members))
+
+    has_else : (l k : ℕ) (s : Status) → l ≢ b.target.link → has_by (batch_mark b ∷ marks) l (link l) s k ≡ true → has_by marks l (link l) s k ≡ true
+    has_else l k OK ne has = refl
+    has_else l k RECOVERY ne has = grind (arith, nat_tests)
+    has_else l k NG ne has = cc
+
+    good : (l k : ℕ) → has_by (batch_mark b ∷ marks) l (link l) (link l).status k ≡ true → p.partition k ≡ p.of l → after (table l) (done_at f (p.at l) d.members d.log) (at_link l k) ≡ plain p book k
+    good l k has e = ⊎_elim
+        (λ (q : l ≡ b.target.link). subst (λ n. has_by (batch_mark b ∷ marks) n (link n) (link n).status k ≡ true → p.partition k ≡ p.of n → after (table n) (done_at f (p.at n) d.members d.log) (at_link n k) ≡ plain p book k) (sym q) (target_good k) has e)
+        (λ (ne : l ≡ b.target.link → ⊥). else_after l k ne ∙ h.good l k (has_else l k _ ne has) e)
+        (cases_eq l b.target.link)
+
+    fresh : (l e k : ℕ) → leb e (link l).epoch ≡ false → is_copied (batch_mark b ∷ marks) l e k ≡ false
+    fresh l e k above = ⊎_elim
+        (λ (q : b.target.link ≡ l).
+        let now : b.target.epoch ≡ (link l).epoch = eqb-true _ _ (grind (arith, c.target)) ∙ ap (λ z. (link z).epoch) q in
+        let old : is_copied marks l e k ≡ false = h.fresh l e k above in
+        grind (arith, nat_tests, now, old))
+        (λ (ne : b.target.link ≡ l → ⊥). let old : is_copied marks l e k ≡ false = h.fresh l e k above in grind (arith, nat_tests, old))
+        (cases_eq b.target.link l)
