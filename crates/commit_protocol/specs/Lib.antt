@@ -3,3 +3,4 @@ pub mod Backend
 pub mod Network
 pub mod Protocol
 pub mod Links
+pub mod Statements

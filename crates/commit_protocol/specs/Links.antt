@@ -419,3 +419,10 @@ new_front status = record {
   writing = None;
   book = [];
 }
+
+-- ---- words of the laws
+
+-- It is one of these.
+abbrev pub IsAmong : Went → List Went → Type 0
+IsAmong g [] = ⊥
+IsAmong g (h ∷ hs) = (h ≡ g) ⊎ IsAmong g hs

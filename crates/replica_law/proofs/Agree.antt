@@ -1,18 +1,18 @@
 -- Each link that counts has the plain tables' rows, and the decided transactions are a run of the plain tables: what a decision has to
 -- show, for statements and for a copy's batch.
-use Rattle.std.proofs.Common.{◌≡◌, ◌≢◌, ℕ, Bool, true, false, cond, ◌&&◌, ◌||◌, ◌+◌, eqb, leb, List, [], ◌∷◌, Option, Some, None, refl, sym, ap, ◌∙◌, subst, arith, ◌⊎◌, inl, inr, ⊎_elim, eqb-true}
+use Rattle.std.proofs.Common.{◌≡◌, ◌≢◌, ℕ, Bool, true, false, cond, ◌&&◌, ◌||◌, eqb, leb, List, [], ◌∷◌, Option, Some, None, refl, sym, ap, ◌∙◌, subst, arith, ◌⊎◌, inl, inr, ⊎_elim, eqb-true}
 use Rattle.std.proofs.lemmas.Bool.Decides.{nat_tests}
 use Rattle.std.proofs.lemmas.Bool.{cases_Bool, cases_eq}
-use Rattle.commit_protocol.specs.Rows.{Key, Table, Interval, Operation, is_within, is_in_one, after, AreRight}
+use Rattle.commit_protocol.specs.Rows.{Table, is_within, is_in_one, after, AreRight}
 use Rattle.commit_protocol.specs.Network.{Topology}
-use Rattle.commit_protocol.specs.Protocol.{World, Transaction, Decision, Step, has_member, is_member, are_ready, done_on, done_at, decided_rows}
-use Rattle.commit_protocol.specs.Links.{Plain, Placement, Went, Note, Link, Status, Cursor, Mark, Matter, CopyBatch, EndsAt, at_link, lies, seen_in, written, plain_after, plain, IsPlainRun, IsPlainSerial, is_ok, is_recovery, is_ng, reaches_key, is_below, is_copied, comes_to, has_by, went_to, went_in, all_of, all_sent, notes_sent, links_of, AreWritten, protects, one_protects, are_protected, Follows, batch_notes, batch_mark}
+use Rattle.commit_protocol.specs.Protocol.{Transaction, Decision, has_member, is_member, are_ready, done_on, done_at, decided_rows}
+use Rattle.commit_protocol.specs.Links.{Plain, Placement, Went, Note, Link, Status, Cursor, Mark, CopyBatch, EndsAt, at_link, lies, plain_after, plain, IsPlainRun, IsPlainSerial, is_ok, is_recovery, is_ng, reaches_key, is_below, is_copied, comes_to, has_by, went_to, went_in, notes_sent, AreWritten, protects, are_protected, Follows, batch_notes, batch_mark}
 use Rattle.commit_protocol.specs.Links.Note.{Read, Write}
 use Rattle.commit_protocol.specs.Links.Status.{OK, RECOVERY, NG}
 use Rattle.commit_protocol.specs.Links.Cursor.{Nothing, Up_to, All}
 use Rattle.protocol_law.proofs.Serial.{member_of, none_at}
 use Rattle.replica_law.proofs.Present.{ArePresent, present_went, present_protects}
-use Rattle.replica_law.proofs.Notes.{AllWent, NoneWent, NoneOf, Before, same_plain, of_went, none_of_after, follows_after, follows_none, follows_tail, follows_read}
+use Rattle.replica_law.proofs.Notes.{AllWent, NoneOf, Before, same_plain, of_went, none_of_after, follows_after, follows_none, follows_tail, follows_read}
 
 -- ---- what holds of links, marks, history and book
 
@@ -74,8 +74,8 @@ plain_run : (f : Topology) (p : Placement) (link : ℕ → Link) (ms : List ℕ)
 plain_run f p link ms line asked hs u table [] good there i w s r = tt
 plain_run f p link ms line asked hs u table (Write q keys rows links ∷ older) good there i w s r =
     plain_run f p link ms line asked hs u table older good
-        (λ l ok m. let d = there l ok m in record { on = d.on; asked_on = d.asked_on; before = follows_tail p l d.on (table l) (Write q keys rows links) older d.before.ops d.before.follows d.before.right })
-        i w.2 (grind arith) r
+    (λ l ok m. let d = there l ok m in record { on = d.on; asked_on = d.asked_on; before = follows_tail p l d.on (table l) (Write q keys rows links) older d.before.ops d.before.follows d.before.right })
+    i w.2 (grind arith) r
 plain_run f p link ms line asked hs u table (Read q keys look found links ∷ older) good there i w s r =
     let g = present_protects f p link ms q links (grind arith) in
     let d = there g.0 g.1 g.3 in
@@ -121,7 +121,7 @@ statements_hold f p link line t hs history d notes marks book i writes reads h =
         let c = there f p link line t hs history d notes i l m in
         ap (λ z. after (decided_rows f (p.at l) history) z (at_link l k)) c.2
         ∙ follows_after p l c.0 (decided_rows f (p.at l) history) (plain p book) notes (done_on c.0 d.log) k c.3
-            (all_went f p link d.members line t.asked l c.0 hs notes writes i.sent i.present (has_not_ng marks l (link l) _ k has) c.1) e (h.good l k has e))
+        (all_went f p link d.members line t.asked l c.0 hs notes writes i.sent i.present (has_not_ng marks l (link l) _ k has) c.1) e (h.good l k has e))
         (λ (m : has_member f (p.at l) d.members ≡ false).
         ap (λ z. after (decided_rows f (p.at l) history) z (at_link l k)) (none_at f d.members (p.at l) d.log m)
         ∙ h.good l k has e ∙ sym (none_of_after p l (plain p book) notes k (none_of f p link d.members l notes writes (has_not_ng marks l (link l) _ k has) m) e))
@@ -225,7 +225,7 @@ batch_holds f p link line t hs history d b marks book i c h = record { good = go
     target_after k e =
         ap (λ z. after (table b.target.link) z (at_link b.target.link k)) at_target.2
         ∙ follows_after p b.target.link at_target.0 (table b.target.link) (λ n. table b.target.link (at_link b.target.link n)) (batch_notes p b) (done_on at_target.0 d.log) k at_target.3
-            ((λ q. to_target), (λ q. refl), ((λ q. to_target), (λ q. refl), tt)) e refl
+        ((λ q. to_target), (λ q. refl), ((λ q. to_target), (λ q. refl), tt)) e refl
         ∙ batch_after p b (λ n. table b.target.link (at_link b.target.link n)) k c.put c.within e
 
     -- what is kept there was copied before

@@ -2,3 +2,4 @@ pub mod Present
 pub mod Notes
 pub mod Agree
 pub mod Moves
+pub mod Executed

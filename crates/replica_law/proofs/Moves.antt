@@ -1,25 +1,24 @@
 -- The links and the plain tables agree after each move of the front, and so over every run.
-use Rattle.std.proofs.Common.{◌≡◌, ◌≢◌, ℕ, Bool, true, false, cond, ◌&&◌, ◌||◌, ◌+◌, eqb, leb, List, [], ◌∷◌, Option, Some, None, refl, sym, ap, ◌∙◌, subst, arith, ◌⊎◌, inl, inr, ⊎_elim, eqb-true}
+use Rattle.std.proofs.Common.{◌≡◌, ℕ, Bool, true, false, cond, ◌+◌, leb, List, [], ◌∷◌, Option, Some, None, refl, sym, ap, ◌∙◌, subst, arith, ◌⊎◌, inl, inr, eqb-true}
 use Rattle.std.proofs.lemmas.Bool.Decides.{nat_tests}
-use Rattle.std.proofs.lemmas.Bool.{cases_Bool, cases_eq}
-use Rattle.commit_protocol.specs.Rows.{Key, Table, Footprint, after, AreRight}
+use Rattle.commit_protocol.specs.Rows.{Table, Footprint}
 use Rattle.commit_protocol.specs.Backend.{Request}
 use Rattle.commit_protocol.specs.Backend.Request.{Start, Scan, Change, End, Prepare, Commit, Rollback}
 use Rattle.commit_protocol.specs.Network.{set, Topology, Reply, dialled_now}
-use Rattle.commit_protocol.specs.Protocol.{World, Transaction, Decision, Move, is_at, is_fresh, is_live, has_member, is_member, may_ask, may_use, may_decide, are_ready, asks, asking, delivers, reads, writes, recorded, new_boot, with_phase, with_connection, uses_connection, sees_hangup, done_on, done_at, decided_rows, view, happens, start}
+use Rattle.commit_protocol.specs.Protocol.{World, Transaction, Decision, Move, is_fresh, is_live, is_member, may_ask, may_use, may_decide, asks, asking, delivers, reads, writes, recorded, with_phase, with_connection, uses_connection, sees_hangup, done_on, decided_rows, view, happens}
 use Rattle.commit_protocol.specs.Protocol.Phase.{Live, Over}
 use Rattle.commit_protocol.specs.Protocol.Move.{Draws, Dials, Uses, Sends, Delivers, Reads, Breaks, Hangup_seen, Writes, Recorded, Gives_up, Stops, Front_stops, Reopens}
-use Rattle.commit_protocol.specs.Links.{Plain, Placement, Went, Note, Link, Status, Cursor, Mark, Matter, CopyBatch, Front, at_link, plain, IsPlainSerial, is_ok, is_recovery, is_ng, reaches_key, is_copied, has_by, has_key, recorded_by, has_recorded, notes_sent, MayDecide, MayCopy, batch_notes, batch_mark, is_free, is_free_request, all_past, is_line, sends_to, booked, reopened, with_link, raised, IsMark, Follows, Next, Run, new_front}
+use Rattle.commit_protocol.specs.Links.{Placement, Went, Note, Link, Status, Cursor, Mark, Matter, CopyBatch, Front, at_link, plain, is_recovery, reaches_key, is_copied, has_by, has_key, recorded_by, has_recorded, notes_sent, MayDecide, MayCopy, batch_notes, batch_mark, is_free, all_past, is_line, sends_to, booked, reopened, with_link, raised, IsMark, Follows, Next, Run, new_front}
 use Rattle.commit_protocol.specs.Links.Matter.{Statements, Batch}
 use Rattle.commit_protocol.specs.Links.Status.{OK, RECOVERY, NG}
-use Rattle.commit_protocol.specs.Links.Cursor.{Nothing, Up_to, All}
+use Rattle.commit_protocol.specs.Links.Cursor.{Nothing, All}
 use Rattle.commit_protocol.specs.Links.Next.{Goes, Opens, Scans, Changes, Prepares, Decides, Copies, Is_recorded, Is_reopened, Falls, Rises, Moves_cursor, Completes}
 use Rattle.commit_protocol.specs.Links.Run.{Stays, Steps}
 use Rattle.protocol_law.proofs.Traffic.{set_cases, guarded, unless, is_none_from}
 use Rattle.protocol_law.proofs.Serial.{is_at_from}
 use Rattle.protocol_law.proofs.Runs.{IsSound, sound, sound_happens, view_is}
-use Rattle.replica_law.proofs.Present.{IsPresent, ArePresent, present_same, present_prepares, present_opens, present_sends, present_link, asks_prepare, SameAsked, same_asked}
-use Rattle.replica_law.proofs.Agree.{Holds, Standing, CopyStands, recovery_has, statements_hold, batch_holds}
+use Rattle.replica_law.proofs.Present.{ArePresent, present_same, present_prepares, present_opens, present_sends, present_link, asks_prepare, SameAsked, same_asked}
+use Rattle.replica_law.proofs.Agree.{Holds, Standing, recovery_has, statements_hold, batch_holds}
 
 -- ---- the invariant
 

@@ -1,10 +1,9 @@
 -- What was done on a connection, seen at one link, against what the notes say of the plain tables.
-use Rattle.std.proofs.Common.{◌≡◌, ◌≢◌, ℕ, Bool, true, false, cond, ◌&&◌, ◌||◌, eqb, List, [], ◌∷◌, Option, None, refl, sym, ap, ◌∙◌, subst, arith, ◌⊎◌, inl, inr, ⊎_elim, eqb-true}
+use Rattle.std.proofs.Common.{◌≡◌, ◌≢◌, ℕ, Bool, true, false, cond, ◌&&◌, eqb, List, [], ◌∷◌, None, refl, sym, ap, ◌∙◌, arith, ⊎_elim, eqb-true}
 use Rattle.std.proofs.lemmas.Bool.Decides.{nat_tests}
 use Rattle.std.proofs.lemmas.Bool.{cases_Bool}
-use Rattle.commit_protocol.specs.Rows.{Key, Table, Interval, Footprint, Operation, is_in_one, covers, restricted, after, IsRight, AreRight}
-use Rattle.commit_protocol.specs.Rows.Operation.{Scanned, Changed}
-use Rattle.commit_protocol.specs.Links.{Plain, Placement, Went, Note, at_link, lies, seen_in, written, plain_after, went_to, all_of, links_of, IsScanOf, IsChangeOf, Follows}
+use Rattle.commit_protocol.specs.Rows.{Table, Interval, Footprint, Operation, is_in_one, covers, after, AreRight}
+use Rattle.commit_protocol.specs.Links.{Plain, Placement, Went, Note, at_link, lies, seen_in, written, plain_after, went_to, all_of, Follows}
 use Rattle.commit_protocol.specs.Links.Note.{Read, Write}
 use Rattle.commit_protocol.specs.Links.Follows.{Ends, Passes, Reads_here, Writes_here, Scans_more, Changes_other}
 

@@ -1,16 +1,15 @@
 -- What went to a link in its present epoch went by the transaction's present connection, and by the one that was asked to prepare.
-use Rattle.std.proofs.Common.{◌≡◌, ◌≢◌, ℕ, Bool, true, false, cond, not, ◌&&◌, ◌||◌, ◌+◌, eqb, leb, List, [], ◌∷◌, Option, Some, None, is_none, refl, sym, ap, ◌∙◌, subst, arith, ◌⊎◌, inl, inr, ⊎_elim, eqb-true}
+use Rattle.std.proofs.Common.{◌≡◌, ℕ, Bool, true, false, cond, ◌&&◌, ◌+◌, eqb, leb, List, [], ◌∷◌, Option, Some, None, refl, sym, ap, ◌∙◌, subst, arith, ◌⊎◌, inl, inr, ⊎_elim, eqb-true}
 use Rattle.std.proofs.lemmas.Bool.Decides.{nat_tests}
 use Rattle.std.proofs.lemmas.Bool.{cases_Bool}
-use Rattle.commit_protocol.specs.Backend.{Request, Effect, effect}
+use Rattle.commit_protocol.specs.Backend.{Request, effect}
 use Rattle.commit_protocol.specs.Backend.Request.{Start, Scan, Change, End, Prepare, Commit, Rollback}
 use Rattle.commit_protocol.specs.Network.{set, Topology, Reply, dialled_now}
-use Rattle.commit_protocol.specs.Protocol.{World, Transaction, Decision, Move, is_at, has_member, is_member, is_fresh, is_live, may_ask, may_use, may_decide, are_ready, asks, delivers, reads, recorded, new_boot, writes, with_phase, with_connection, uses_connection, sees_hangup, happens, start}
+use Rattle.commit_protocol.specs.Protocol.{World, Transaction, Decision, Move, has_member, is_fresh, is_live, may_ask, may_use, may_decide, asks, delivers, reads, recorded, new_boot, writes, with_phase, with_connection, uses_connection, sees_hangup, happens}
 use Rattle.commit_protocol.specs.Protocol.Phase.{Live, Over}
 use Rattle.commit_protocol.specs.Protocol.Move.{Draws, Dials, Uses, Sends, Delivers, Reads, Breaks, Hangup_seen, Writes, Recorded, Gives_up, Stops, Front_stops, Reopens}
-use Rattle.commit_protocol.specs.Links.{Placement, Link, Status, Went, Note, Front, went_to, went_in, was_sent, all_sent, protects, one_protects, is_ok, all_past, raised}
-use Rattle.protocol_law.proofs.Traffic.{set_cases, guarded, unless, served_rest, is_none_from}
-use Rattle.protocol_law.proofs.Serial.{is_at_from}
+use Rattle.commit_protocol.specs.Links.{Placement, Link, Went, went_to, went_in, was_sent, all_sent, protects, one_protects, is_ok, all_past, IsAmong}
+use Rattle.protocol_law.proofs.Traffic.{set_cases, guarded, unless, served_rest}
 
 -- ---- the invariant of one transaction
 
@@ -184,3 +183,10 @@ same_asked f w (Reopens found) h = either found
     either : (b : Bool) → SameAsked w (new_boot (cond b (recorded w w.pending) w))
     either true = asked_recorded w w.pending
     either false = λ x s. refl
+
+-- ---- the law
+
+pub names_connection : (p : Placement) (link : ℕ → Link) (line asked : ℕ → Option ℕ) (gs : List Went) (g : Went) (c : ℕ) → ArePresent p link line asked gs → IsAmong g gs → g.epoch ≡ (link g.link).epoch → asked (p.at g.link) ≡ Some c → g.connection ≡ c
+names_connection p link line asked [] g c i a e h = absurd a
+names_connection p link line asked (n ∷ gs) g c i (inl q) e h = let here : IsPresent p (link g.link).epoch line asked g = subst (λ (z : Went). IsPresent p (link z.link).epoch line asked z) q i.0 in sym (here.asked_on e c h)
+names_connection p link line asked (n ∷ gs) g c i (inr a) e h = names_connection p link line asked gs g c i.1 a e h

@@ -1,2 +1,46 @@
-//! The laws of redundant links.
+//! The laws of redundant links and of the plain tables, over every run.
+//!
+//! What it is for: links fall, come back and are copied to while transactions go on, servers and the front stop, and a record
+//! may be kept or lost; all the same the decided transactions are a serial run of one plain table, each read of theirs found
+//! what that table gave then, and each link that is OK has its rows.
+//!
+//! How it is used: each law is the contract of a function without parameters. The front's core shows that what it does is a
+//! `Run` of `commit_protocol`; a language's statements are put in as `Statement`s.
+//!
+//! What it promises: the laws, without any premise beyond the guards of `commit_protocol`'s moves.
 #![tactic(auto)]
+
+ghost use Rattle.std.specs.Prelude.{◌≡◌, ℕ, List, Option, Some, true, map};
+ghost use Rattle.commit_protocol.specs.Network.{Topology};
+ghost use Rattle.commit_protocol.specs.Protocol.{view};
+ghost use Rattle.commit_protocol.specs.Links.{Placement, Status, Front, Went, Run, new_front, at_link, has_key, has_recorded, plain, IsPlainSerial, IsAmong};
+ghost use Rattle.commit_protocol.specs.Statements.{Entry, notes_of, AllAnswered, AreSerial, tables_of};
+
+/// The decided transactions, in the order of their decisions, are a run of the plain tables, each of whose reads found what
+/// these gave then; and what counts of each link is the plain tables' rows of its partition: each key of an OK link, and those
+/// up to the cursor of a RECOVERY link. Also those that decided batches have reached whose cursor isn't recorded yet.
+pub fn links_agree()
+    ensures serial { (f : Topology) (p : Placement) (status : ℕ → Status) (v : Front) → Run f p (new_front status) v → IsPlainSerial p v.book }
+    ensures whole { (f : Topology) (p : Placement) (status : ℕ → Status) (v : Front) (l k : ℕ) → Run f p (new_front status) v
+        → has_recorded v l k ≡ true → p.partition k ≡ p.of l → view f v.core (p.at l) (at_link l k) ≡ plain p v.book k }
+    ensures copied { (f : Topology) (p : Placement) (status : ℕ → Status) (v : Front) (l k : ℕ) → Run f p (new_front status) v
+        → has_key v l k ≡ true → p.partition k ≡ p.of l → view f v.core (p.at l) (at_link l k) ≡ plain p v.book k }
+{}
+
+/// For any meaning of statements that is a function of what their scans find: where the decided transactions' notes are those
+/// of statements that were scanned whole and answered from what was found, they are a serial run of these statements, and each
+/// link has the rows of the tables that all leave. A copy's batch is a transaction without statements.
+pub fn statements_are_serial()
+    ensures answers { (f : Topology) (p : Placement) (status : ℕ → Status) (v : Front) (book : List (List Entry)) → Run f p (new_front status) v
+        → v.book ≡ map notes_of book → AllAnswered book → AreSerial p book }
+    ensures rows { (f : Topology) (p : Placement) (status : ℕ → Status) (v : Front) (book : List (List Entry)) (l k : ℕ) → Run f p (new_front status) v
+        → v.book ≡ map notes_of book → AllAnswered book → has_recorded v l k ≡ true → p.partition k ≡ p.of l
+        → view f v.core (p.at l) (at_link l k) ≡ tables_of p book k }
+{}
+
+/// What went to a link in the link's present epoch went on the connection on which that server was asked to prepare: so the
+/// tests by epochs and servers say which connection it was.
+pub fn epochs_name_connections()
+    ensures { (f : Topology) (p : Placement) (status : ℕ → Status) (v : Front) (x c : ℕ) (g : Went) → Run f p (new_front status) v
+        → IsAmong g (v.sent x) → g.epoch ≡ (v.link g.link).epoch → (v.core.transaction x).asked (p.at g.link) ≡ Some c → g.connection ≡ c }
+{}
