@@ -79,6 +79,7 @@ pub data Request : Type 0 where
   Prepare : (xid : ℕ) → Request
   Commit : (xid : ℕ) → Request
   Rollback : (xid : ℕ) → Request
+  Recover : Request
 
 abbrev pub point : ℕ → Interval
 point k = record { from = k; to = k }
@@ -95,9 +96,10 @@ clear table from to = Change (record { table = table; keys = record { from = fro
 
 -- ---- effects
 
--- What a request does: nothing, or one thing with one branch.
+-- What a request does: nothing, which is a refusal; a list of what is prepared; or one thing with one branch.
 pub data Effect : Type 0 where
   Keep : Effect
+  Show : (xids : List ℕ) → Effect
   Begin : (xid owner : ℕ) → Effect
   Grow : (branch : Branch) (op : Operation) → Effect
   Close : (branch : Branch) → Effect
@@ -131,12 +133,18 @@ abbrev pub dropped : ℕ → Option Branch → Effect
 dropped c None = Keep
 dropped c (Some b) = cond (is_prepared b.stage || eqb b.owner c) (Drop b) Keep
 
+-- The transactions with a prepared branch; a backend lists them in an order of its own.
+abbrev pub prepared_xids : List Branch → List ℕ
+prepared_xids [] = []
+prepared_xids (b ∷ bs) = cond (is_prepared b.stage) (b.xid ∷ prepared_xids bs) (prepared_xids bs)
+
 -- What a request on a connection does at a server; a request that isn't done there is refused and changes nothing.
 abbrev pub effect : Server → ℕ → Request → Effect
 effect s c (Start x) = cond (is_some (find x s.branches) || is_some (owned c s.branches)) Keep (Begin x c)
 effect s c (Scan f) = grown s (scan_by s f (owned c s.branches)) (owned c s.branches)
 effect s c (Change f rows) = grown s (Changed f rows) (owned c s.branches)
 effect s c (End x) = closed c (find x s.branches)
+effect s c Recover = Show (prepared_xids s.branches)
 effect s c (Prepare x) = readied c (find x s.branches)
 effect s c (Commit x) = installed (find x s.branches)
 effect s c (Rollback x) = dropped c (find x s.branches)
@@ -144,6 +152,7 @@ effect s c (Rollback x) = dropped c (find x s.branches)
 -- The server after an effect.
 abbrev pub done : Server → Effect → Server
 done s Keep = s
+done s (Show xids) = s
 done s (Begin x c) = record s { branches = put (record { xid = x; stage = Active; owner = c; log = [] }) s.branches }
 done s (Grow b op) = record s { branches = put (record b { log = op ∷ b.log }) s.branches }
 done s (Close b) = record s { branches = put (record b { stage = Ended }) s.branches }

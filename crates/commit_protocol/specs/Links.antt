@@ -4,10 +4,10 @@ use Rattle.std.specs.Prelude.{◌≡◌, ◌≢◌, ℕ, Bool, true, false, cond
 use Rattle.commit_protocol.specs.Rows.{Row, Key, Table, Interval, Footprint, Operation, is_in_one, covers}
 use Rattle.commit_protocol.specs.Rows.Operation.{Scanned, Changed}
 use Rattle.commit_protocol.specs.Backend.{Request}
-use Rattle.commit_protocol.specs.Backend.Request.{Start, Scan, Change, End, Prepare, Commit, Rollback}
+use Rattle.commit_protocol.specs.Backend.Request.{Start, Scan, Change, End, Prepare, Commit, Rollback, Recover}
 use Rattle.commit_protocol.specs.Network.{set, Topology}
 use Rattle.commit_protocol.specs.Protocol.{World, Move, is_at, has_member, is_member, may_ask, may_use, may_decide, done_on, happens, start}
-use Rattle.commit_protocol.specs.Protocol.Move.{Draws, Dials, Uses, Sends, Delivers, Reads, Breaks, Hangup_seen, Writes, Recorded, Gives_up, Stops, Front_stops, Reopens}
+use Rattle.commit_protocol.specs.Protocol.Move.{Draws, Dials, Uses, Sends, Delivers, Refuses, Faults, Reads, Breaks, Hangup_seen, Writes, Recorded, Gives_up, Stops, Front_stops, Reopens}
 
 -- ---- partitions and links
 
@@ -319,6 +319,7 @@ is_free_request (Start x) = true
 is_free_request (Scan fp) = false
 is_free_request (Change fp rows) = false
 is_free_request (End x) = true
+is_free_request Recover = true
 is_free_request (Prepare x) = false
 is_free_request (Commit x) = true
 is_free_request (Rollback x) = true
@@ -329,6 +330,8 @@ is_free (Dials c) = true
 is_free (Uses c x) = false
 is_free (Sends c r) = is_free_request r
 is_free (Delivers c) = true
+is_free (Refuses c) = true
+is_free (Faults c found) = true
 is_free (Reads c) = true
 is_free (Breaks c) = true
 is_free (Hangup_seen c) = true

@@ -2,7 +2,7 @@
 use Rattle.std.specs.Prelude.{ℕ, Bool, true, false, cond, not, ◌&&◌, ◌||◌, eqb, List, [], ◌∷◌, ◌++◌}
 use Rattle.commit_protocol.specs.Rows.{Operation}
 use Rattle.commit_protocol.specs.Backend.{Request, Effect}
-use Rattle.commit_protocol.specs.Backend.Effect.{Keep, Begin, Grow, Close, Ready, Drop, Install}
+use Rattle.commit_protocol.specs.Backend.Effect.{Keep, Show, Begin, Grow, Close, Ready, Drop, Install}
 
 -- f with another value at one place.
 abbrev pub set : {A : Type 0} → (ℕ → A) → ℕ → A → ℕ → A
@@ -12,14 +12,16 @@ set f k v n = cond (eqb n k) v (f n)
 pub record Topology : Type 0 where
   pub home : ℕ → ℕ
 
--- What a server answers: the operation that ran, or done, or a refusal.
+-- What a server answers: a refusal, the operation that ran, done, or what is prepared.
 pub data Reply : Type 0 where
   Refused : Reply
   Ran : (op : Operation) → Reply
   Did : Reply
+  Listed : (xids : List ℕ) → Reply
 
 abbrev pub reply : Effect → Reply
 reply Keep = Refused
+reply (Show xids) = Listed xids
 reply (Begin x c) = Did
 reply (Grow b op) = Ran op
 reply (Close b) = Did
@@ -75,6 +77,7 @@ ended c = record (broken c) { heard = false; queue = [] }
 
 abbrev pub begins : Effect → Bool
 begins Keep = false
+begins (Show xids) = false
 begins (Begin x c) = true
 begins (Grow b op) = false
 begins (Close b) = false
@@ -82,9 +85,10 @@ begins (Ready b) = false
 begins (Drop b) = false
 begins (Install b) = false
 
--- A connection after its first request had an effect, with the rest still under way: the answer of a broken one vanishes.
-abbrev pub after_serving : Connection → List Request → Effect → Connection
-after_serving c rest e = record c { begun = c.begun || begins e; missed = c.missed || not c.stands; queue = rest; unread = cond c.stands (c.unread ++ reply e ∷ []) [] }
+-- A connection after its first request had an effect and was answered so, with the rest still under way: the answer of a broken
+-- one vanishes.
+abbrev pub after_serving : Connection → List Request → Effect → Reply → Connection
+after_serving c rest e told = record c { begun = c.begun || begins e; missed = c.missed || not c.stands; queue = rest; unread = cond c.stands (c.unread ++ told ∷ []) [] }
 
 abbrev pub new_connection : Connection
 new_connection = record { xid = 0; begun = false; dialled = false; heard = false; stands = false; missed = false; queue = []; unread = [] }

@@ -2,10 +2,10 @@
 use Rattle.std.specs.Prelude.{◌≡◌, ℕ, Bool, true, false, cond, not, ◌&&◌, ◌||◌, eqb, List, [], ◌∷◌, ◌++◌, Option, Some, None, is_none}
 use Rattle.commit_protocol.specs.Rows.{Table, Operation, after, AreRight}
 use Rattle.commit_protocol.specs.Backend.{Branch, Server, Request, Effect, find, is_prepared, effect, done, hung_up, stopped, new_server}
-use Rattle.commit_protocol.specs.Backend.Request.{Start, Scan, Change, End, Prepare, Commit, Rollback}
-use Rattle.commit_protocol.specs.Backend.Effect.{Keep, Begin, Grow, Close, Ready, Drop, Install}
-use Rattle.commit_protocol.specs.Network.{set, Topology, Reply, Connection, reaches, is_idle, dialled_now, broken, ended, after_serving, new_connection}
-use Rattle.commit_protocol.specs.Network.Reply.{Refused, Ran, Did}
+use Rattle.commit_protocol.specs.Backend.Request.{Start, Scan, Change, End, Prepare, Commit, Rollback, Recover}
+use Rattle.commit_protocol.specs.Backend.Effect.{Keep, Show, Begin, Grow, Close, Ready, Drop, Install}
+use Rattle.commit_protocol.specs.Network.{set, Topology, Reply, Connection, reaches, is_idle, dialled_now, broken, ended, reply, after_serving, new_connection}
+use Rattle.commit_protocol.specs.Network.Reply.{Refused, Ran, Did, Listed}
 
 -- ---- transactions
 
@@ -98,6 +98,7 @@ may_ask f w c (Start y) = eqb y (w.connection c).xid && (is_idle (w.connection c
 may_ask f w c (Scan fp) = reaches (w.connection c) && ((w.connection c).begun && is_none ((w.transaction (w.connection c).xid).asked (f.home c)))
 may_ask f w c (Change fp rows) = reaches (w.connection c) && ((w.connection c).begun && is_none ((w.transaction (w.connection c).xid).asked (f.home c)))
 may_ask f w c (End y) = eqb y (w.connection c).xid && is_idle (w.connection c)
+may_ask f w c Recover = reaches (w.connection c)
 may_ask f w c (Prepare y) = eqb y (w.connection c).xid && (is_idle (w.connection c) && (is_none ((w.transaction y).asked (f.home c)) && is_live (w.transaction y).phase))
 may_ask f w c (Commit y) = reaches (w.connection c) && decided_at f w.history y (f.home c)
 may_ask f w c (Rollback y) = reaches (w.connection c) && (is_over (w.transaction y).phase && not (decided_at f w.history y (f.home c)))
@@ -139,6 +140,7 @@ asking f w c (Start y) = w.transaction
 asking f w c (Scan fp) = w.transaction
 asking f w c (Change fp rows) = w.transaction
 asking f w c (End y) = w.transaction
+asking f w c Recover = w.transaction
 asking f w c (Prepare y) = set w.transaction y (record (w.transaction y) { asked = set (w.transaction y).asked (f.home c) (Some c) })
 asking f w c (Commit y) = w.transaction
 asking f w c (Rollback y) = w.transaction
@@ -152,6 +154,7 @@ asks f w c r = record w {
 
 abbrev pub readying : Topology → World → ℕ → Effect → ℕ → Transaction
 readying f w c Keep = w.transaction
+readying f w c (Show xids) = w.transaction
 readying f w c (Begin x d) = w.transaction
 readying f w c (Grow b op) = w.transaction
 readying f w c (Close b) = w.transaction
@@ -159,23 +162,57 @@ readying f w c (Ready b) = set w.transaction b.xid (record (w.transaction b.xid)
 readying f w c (Drop b) = w.transaction
 readying f w c (Install b) = w.transaction
 
--- The server has done the first request of a connection, and rest is still under way.
-abbrev pub serves : Topology → World → ℕ → List Request → Effect → World
-serves f w c rest e = record w {
+-- The server has done the first request of a connection and answered so; rest is still under way.
+abbrev pub serves : Topology → World → ℕ → List Request → Effect → Reply → World
+serves f w c rest e told = record w {
   server = set w.server (f.home c) (done (w.server (f.home c)) e);
-  connection = set w.connection c (after_serving (w.connection c) rest e);
+  connection = set w.connection c (after_serving (w.connection c) rest e told);
   transaction = readying f w c e;
 }
 
+abbrev pub does : Topology → World → ℕ → List Request → Effect → World
+does f w c rest e = serves f w c rest e (reply e)
+
 abbrev pub delivers : Topology → World → ℕ → List Request → World
 delivers f w c [] = w
-delivers f w c (r ∷ rest) = serves f w c rest (effect (w.server (f.home c)) c r)
+delivers f w c (r ∷ rest) = does f w c rest (effect (w.server (f.home c)) c r)
+
+-- The server refuses the first request for a cause of its own: want of memory, a limit, a table that it hasn't.
+abbrev pub refuses : Topology → World → ℕ → List Request → World
+refuses f w c [] = w
+refuses f w c (r ∷ rest) = does f w c rest Keep
+
+-- A step that is durable: a prepared branch stands, goes, or is installed.
+abbrev pub is_durable : Effect → Bool
+is_durable Keep = false
+is_durable (Show xids) = false
+is_durable (Begin x c) = false
+is_durable (Grow b op) = false
+is_durable (Close b) = false
+is_durable (Ready b) = true
+is_durable (Drop b) = true
+is_durable (Install b) = true
+
+-- What is left of a durable step whose disk faults: the step, or nothing.
+abbrev pub left_of : Bool → Effect → Effect
+left_of found e = cond (found && is_durable e) e Keep
+
+-- A server's unprepared branches go.
+abbrev pub drops_unprepared : World → ℕ → World
+drops_unprepared w s = record w { server = set w.server s (stopped (w.server s)) }
+
+-- The disk of a server faults in the step of the first request: the step is kept or lost, the answer is a refusal, and the
+-- server's unprepared branches go.
+abbrev pub faults : Topology → World → ℕ → Bool → List Request → World
+faults f w c found [] = w
+faults f w c found (r ∷ rest) = drops_unprepared (serves f w c rest (left_of found (effect (w.server (f.home c)) c r)) Refused) (f.home c)
 
 -- The front notes what it reads while the transaction is live.
 abbrev pub noting : ℕ → Reply → List Step → List Step
 noting c Refused log = log
 noting c (Ran op) log = record { connection = c; op = op } ∷ log
 noting c Did log = log
+noting c (Listed xids) log = log
 
 abbrev pub reading : ℕ → Reply → Transaction → Transaction
 reading c r t = record t { log = cond (is_live t.phase) (noting c r t.log) t.log }
@@ -241,6 +278,10 @@ pub data Move : Type 0 where
   Sends : (c : ℕ) (request : Request) → Move
   -- a server takes the first request under way on a connection, which may be broken
   Delivers : (c : ℕ) → Move
+  -- a server refuses the first request for a cause of its own
+  Refuses : (c : ℕ) → Move
+  -- a server's disk faults in the step of the first request, which is kept or lost
+  Faults : (c : ℕ) (found : Bool) → Move
   -- the front reads the first answer
   Reads : (c : ℕ) → Move
   -- a connection breaks: its answers vanish
@@ -266,6 +307,8 @@ happens f w (Dials c) = cond (w.connection c).dialled w (with_connection w c (di
 happens f w (Uses c x) = cond (may_use w c x) (uses_connection w c x) w
 happens f w (Sends c r) = cond (may_ask f w c r) (asks f w c r) w
 happens f w (Delivers c) = delivers f w c (w.connection c).queue
+happens f w (Refuses c) = refuses f w c (w.connection c).queue
+happens f w (Faults c found) = faults f w c found (w.connection c).queue
 happens f w (Reads c) = reads w c (w.connection c).unread
 happens f w (Breaks c) = with_connection w c (broken (w.connection c))
 happens f w (Hangup_seen c) = cond (w.connection c).stands w (sees_hangup f w c)
@@ -344,6 +387,8 @@ decides_member f w (Dials c) y s = false
 decides_member f w (Uses c x) y s = false
 decides_member f w (Sends c r) y s = false
 decides_member f w (Delivers c) y s = false
+decides_member f w (Refuses c) y s = false
+decides_member f w (Faults c found) y s = false
 decides_member f w (Reads c) y s = false
 decides_member f w (Breaks c) y s = false
 decides_member f w (Hangup_seen c) y s = false

@@ -1,12 +1,12 @@
 -- What is known where a request has an effect: one case for each kind of effect.
-use Rattle.std.proofs.Common.{◌≡◌, ℕ, Bool, true, false, cond, not, ◌&&◌, ◌||◌, eqb, Option, Some, None, is_some, refl, ap, ◌∙◌, subst, arith, ◌⊎◌, inl, inr, eqb-true}
+use Rattle.std.proofs.Common.{◌≡◌, ℕ, Bool, true, false, cond, not, ◌&&◌, ◌||◌, eqb, List, Option, Some, None, is_some, refl, ap, ◌∙◌, subst, arith, ◌⊎◌, inl, inr, eqb-true}
 use Rattle.std.proofs.lemmas.Bool.Decides.{nat_tests}
 use Rattle.commit_protocol.specs.Rows.{Table, Footprint, Operation, footprint_of, after, restricted, IsRight}
 use Rattle.commit_protocol.specs.Rows.Operation.{Scanned, Changed}
 use Rattle.commit_protocol.specs.Backend.{Stage, Branch, Server, Request, Effect, find, owned, is_active, is_ended, is_prepared, blocked, effect, grown, scan_by, closed, readied, installed, dropped}
 use Rattle.commit_protocol.specs.Backend.Stage.{Active, Ended, Prepared}
-use Rattle.commit_protocol.specs.Backend.Request.{Start, Scan, Change, End, Prepare, Commit, Rollback}
-use Rattle.commit_protocol.specs.Backend.Effect.{Keep, Begin, Grow, Close, Ready, Drop, Install}
+use Rattle.commit_protocol.specs.Backend.Request.{Start, Scan, Change, End, Prepare, Commit, Rollback, Recover}
+use Rattle.commit_protocol.specs.Backend.Effect.{Keep, Show, Begin, Grow, Close, Ready, Drop, Install}
 use Rattle.protocol_law.proofs.Branches.{AreDistinct, find_xid, owned_found}
 
 -- the fp that a request locks
@@ -15,12 +15,14 @@ Locks (Start x) op = ⊥
 Locks (Scan fp) op = (rows : Table) × (op ≡ Scanned fp rows)
 Locks (Change fp rows) op = op ≡ Changed fp rows
 Locks (End x) op = ⊥
+Locks Recover op = ⊥
 Locks (Prepare x) op = ⊥
 Locks (Commit x) op = ⊥
 Locks (Rollback x) op = ⊥
 
 pub data Did (s : Server) (c : ℕ) : Request → Effect → Type 0 where
   Kept : {r : Request} → Did s c r Keep
+  Showed : {xids : List ℕ} → Did s c Recover (Show xids)
   Begun : {x : ℕ} → find x s.branches ≡ None → owned c s.branches ≡ None → Did s c (Start x) (Begin x c)
   Grew : {r : Request} {b : Branch} {op : Operation} → find b.xid s.branches ≡ Some b → b.owner ≡ c → b.stage ≡ Active
       → blocked b.xid (footprint_of op) s.branches ≡ false → IsRight (after s.rows b.log) op → Locks r op → Did s c r (Grow b op)
@@ -122,6 +124,7 @@ did s c (Start x) u = did_begin s c x _ refl
 did s c (Scan fp) u = did_grow s c (Scan fp) (scan_by s fp (owned c s.branches)) (owned c s.branches) u refl (λ b h. scan_right s fp (owned c s.branches) b h) (scan_is s fp (owned c s.branches))
 did s c (Change fp rows) u = did_grow s c (Change fp rows) (Changed fp rows) (owned c s.branches) u refl (λ b h. tt) refl
 did s c (End x) u = did_close s c x _ refl
+did s c Recover u = Showed
 did s c (Prepare x) u = did_ready s c x _ refl
 did s c (Commit x) u = did_install s c x _ refl
 did s c (Rollback x) u = did_drop s c x _ refl

@@ -7,7 +7,7 @@ use Rattle.commit_protocol.specs.Backend.Call.{Asks, Hangs_up, Stops}
 use Rattle.protocol_law.proofs.Branches.{AreDistinct, find_kept, find_put, distinct_kept, distinct_put}
 use Rattle.protocol_law.proofs.Logs.{apart_nil, apart_grown}
 use Rattle.protocol_law.proofs.Effects.{Did, did}
-use Rattle.protocol_law.proofs.Effects.Did.{Kept, Begun, Grew, Closed, Readied, Dropped, Installed}
+use Rattle.protocol_law.proofs.Effects.Did.{Kept, Showed, Begun, Grew, Closed, Readied, Dropped, Installed}
 
 abbrev pub EachApart : List Branch → Type 0
 EachApart bs = (x y : ℕ) (a b : Branch) → find x bs ≡ Some a → find y bs ≡ Some b → x ≢ y → AreApart a.log b.log
@@ -44,6 +44,7 @@ locked_kept s p t i = record {
 
 pub locked_done : (s : Server) (c : ℕ) (r : Request) (e : Effect) → Did s c r e → IsLocked s → IsLocked (done s e)
 locked_done s c r e Kept i = i
+locked_done s c r e Showed i = i
 locked_done s c r e (Begun f o) i = locked_put s _ i (λ y a g ne. (tt, apart_nil a.log))
 locked_done s c r e (Grew {b = b} {op = op} f mine stage free right locks) i = locked_put s _ i (λ y a g ne.
     let clear : blocks (footprint_of op) a.log ≡ false = not_blocked b.xid (footprint_of op) s.branches y a free g ne in

@@ -5,42 +5,48 @@ use Rattle.std.proofs.lemmas.Bool.{cases_eq}
 use Rattle.commit_protocol.specs.Rows.{Operation, footprint_of, after, IsRight}
 use Rattle.commit_protocol.specs.Backend.{Branch, Server, Request, Effect, find, is_prepared, kept, put, blocked, done}
 use Rattle.commit_protocol.specs.Backend.Stage.{Active, Ended, Prepared}
-use Rattle.commit_protocol.specs.Backend.Request.{Start, Scan, Change, End, Prepare, Commit, Rollback}
-use Rattle.commit_protocol.specs.Backend.Effect.{Keep, Begin, Grow, Close, Ready, Drop, Install}
+use Rattle.commit_protocol.specs.Backend.Request.{Start, Scan, Change, End, Prepare, Commit, Rollback, Recover}
+use Rattle.commit_protocol.specs.Backend.Effect.{Keep, Show, Begin, Grow, Close, Ready, Drop, Install}
 use Rattle.commit_protocol.specs.Network.{Topology, Connection, Reply, set, is_idle, reply}
-use Rattle.commit_protocol.specs.Protocol.{World, Transaction, Decision, Step, Phase, Move, is_fresh, is_live, is_over, is_undecided, may_ask, asks, serves, readying, delivers, reads, noting, done_on, may_decide, writes, recorded, uses_connection, with_phase, sees_hangup, stops, happens, start}
-use Rattle.commit_protocol.specs.Network.Reply.{Refused, Ran, Did}
+use Rattle.commit_protocol.specs.Protocol.{World, Transaction, Decision, Step, Phase, Move, is_fresh, is_live, is_over, is_undecided, may_ask, asks, serves, readying, delivers, refuses, faults, reads, noting, done_on, may_decide, writes, recorded, uses_connection, with_phase, sees_hangup, stops, happens, start}
+use Rattle.commit_protocol.specs.Network.Reply.{Refused, Ran, Did, Listed}
 use Rattle.commit_protocol.specs.Protocol.Phase.{Fresh, Live, Writing, Over}
-use Rattle.commit_protocol.specs.Protocol.Move.{Draws, Dials, Uses, Sends, Delivers, Reads, Breaks, Hangup_seen, Writes, Recorded, Gives_up, Stops, Front_stops, Reopens}
+use Rattle.commit_protocol.specs.Protocol.Move.{Draws, Dials, Uses, Sends, Delivers, Refuses, Faults, Reads, Breaks, Hangup_seen, Writes, Recorded, Gives_up, Stops, Front_stops, Reopens}
 use Rattle.protocol_law.proofs.Branches.{find_kept, find_kept_there, find_put, find_without}
 use Rattle.protocol_law.proofs.Effects as known
-use Rattle.protocol_law.proofs.Effects.Did.{Kept, Begun, Grew, Closed, Readied, Dropped, Installed}
+use Rattle.protocol_law.proofs.Effects.Did.{Kept, Showed, Begun, Grew, Closed, Readied, Dropped, Installed}
 use Rattle.protocol_law.proofs.Locks.{IsLocked, put_cases}
-use Rattle.protocol_law.proofs.Traffic.{IsOrderly, IsAllowed, AreAllowed, no_ran, is_ran, set_cases, none_told, served_rest, served_ready, IsNews, news_prepare, done_on_other, done_on_quiet, guarded, unless, IsLess, less_at, less_broken, less_ended, less_dialled, with_chans, stops_less, ends_all, none_undecided_then, with_server, with_queue, with_progress, notes_asked, ran_from, is_none_from}
+use Rattle.protocol_law.proofs.Traffic.{IsOrderly, IsAllowed, AreAllowed, no_ran, is_ran, set_cases, none_told, served_rest, served_ready, IsNews, news_prepare, done_on_other, done_on_quiet, guarded, unless, IsLess, less_at, less_broken, less_ended, less_dialled, with_chans, stops_less, ends_all, none_undecided_then, with_server, with_queue, with_progress, notes_asked, ran_from, is_none_from, Says, says_left, did_left, orderly_serves}
+use Rattle.protocol_law.proofs.Traffic.Says.{As_done, Refuses_it}
 
 -- the log once all the answers are read
 abbrev pub onto : List Reply → List Operation → List Operation
 onto [] log = log
 onto (Refused ∷ rs) log = onto rs log
+onto (Listed xids ∷ rs) log = onto rs log
 onto (Ran op ∷ rs) log = onto rs (op ∷ log)
 onto (Did ∷ rs) log = onto rs log
 
 abbrev pub heard : Reply → List Operation → List Operation
 heard Refused log = log
+heard (Listed xids) log = log
 heard (Ran op) log = op ∷ log
 heard Did log = log
 
 pub onto_more : (rs : List Reply) (r : Reply) (log : List Operation) → onto (rs ++ r ∷ []) log ≡ heard r (onto rs log)
 onto_more [] Refused log = refl
+onto_more [] (Listed xids) log = refl
 onto_more [] (Ran op) log = refl
 onto_more [] Did log = refl
 onto_more (Refused ∷ rs) r log = onto_more rs r log
+onto_more (Listed xids ∷ rs) r log = onto_more rs r log
 onto_more (Ran op ∷ rs) r log = onto_more rs r (op ∷ log)
 onto_more (Did ∷ rs) r log = onto_more rs r log
 
 pub onto_quiet : (rs : List Reply) (log : List Operation) → no_ran rs ≡ true → onto rs log ≡ log
 onto_quiet [] log h = refl
 onto_quiet (Refused ∷ rs) log h = onto_quiet rs log (grind arith)
+onto_quiet (Listed xids ∷ rs) log h = onto_quiet rs log (grind arith)
 onto_quiet (Ran op ∷ rs) log h = cc
 onto_quiet (Did ∷ rs) log h = onto_quiet rs log (grind arith)
 
@@ -144,6 +150,7 @@ pub data Track (s : Server) (c : ℕ) (r : Request) (e : Effect) (y : ℕ) (b : 
 
 pub track : (s : Server) (c : ℕ) (r : Request) (e : Effect) → known.Did s c r e → IsLocked s → (y : ℕ) (b : Branch) → find y (done s e).branches ≡ Some b → Track s c r e y b
 track s c r e Kept i y b h = Is_same b h refl refl (λ p. p) (λ p. inl p) (λ t. cc)
+track s c r e Showed i y b h = Is_same b h refl refl (λ p. p) (λ p. inl p) (λ t. cc)
 track s c r e (Begun {x = x} f o) i y b h = two (put_cases (record { xid = x; stage = Active; owner = c; log = [] }) s.branches y b h)
   where
     two : ((x ≡ y) × (record { xid = x; stage = Active; owner = c; log = [] } ≡ b)) ⊎ ((y ≢ x) × (find y s.branches ≡ Some b)) → Track s c (Start x) (Begin x c) y b
@@ -169,6 +176,7 @@ track s c r e (Installed {b = d} f stage) i y b h = let k = find_kept _ y b s.br
 
 abbrev pub is_install : Effect → Bool
 is_install Keep = false
+is_install (Show xids) = false
 is_install (Begin x c) = false
 is_install (Grow b op) = false
 is_install (Close b) = false
@@ -189,6 +197,7 @@ stays_put d e bs y b x f q h p = elim (eqb d.xid y) as (λ v. eqb d.xid y ≡ v 
 -- a prepared branch goes by its own Rollback or Commit alone
 pub stays : (s : Server) (c : ℕ) (r : Request) (e : Effect) → known.Did s c r e → (y : ℕ) (b : Branch) → find y s.branches ≡ Some b → b.stage ≡ Prepared → (r ≡ Rollback y → ⊥) → (r ≡ Commit y → ⊥) → find y (done s e).branches ≡ Some b
 stays s c r e Kept y b h p nr nc = h
+stays s c r e Showed y b h p nr nc = h
 stays s c r e (Begun {x = x} f o) y b h p nr nc = grind (arith, nat_tests, find_put (record { xid = x; stage = Active; owner = c; log = [] }) s.branches y)
 stays s c r e (Grew {b = d} f mine stage free right locks) y b h p nr nc = stays_put d _ s.branches y b refl f (ap is_prepared stage) h p
 stays s c r e (Closed {b = d} f mine stage) y b h p nr nc = stays_put d _ s.branches y b refl f (ap is_prepared stage) h p
@@ -199,6 +208,7 @@ stays s c r e (Installed {b = d} f stage) y b h p nr nc = let ne : d.xid ≡ y �
 -- restricted Install takes a prepared branch away without its Rollback
 pub stays_but : (s : Server) (c : ℕ) (r : Request) (e : Effect) → known.Did s c r e → is_install e ≡ false → (y : ℕ) (b : Branch) → find y s.branches ≡ Some b → b.stage ≡ Prepared → (r ≡ Rollback y → ⊥) → find y (done s e).branches ≡ Some b
 stays_but s c r e Kept n y b h p nr = h
+stays_but s c r e Showed n y b h p nr = h
 stays_but s c r e (Begun {x = x} f o) n y b h p nr = grind (arith, nat_tests, find_put (record { xid = x; stage = Active; owner = c; log = [] }) s.branches y)
 stays_but s c r e (Grew {b = d} f mine stage free right locks) n y b h p nr = stays_put d _ s.branches y b refl f (ap is_prepared stage) h p
 stays_but s c r e (Closed {b = d} f mine stage) n y b h p nr = stays_put d _ s.branches y b refl f (ap is_prepared stage) h p
@@ -220,6 +230,7 @@ told_served f w c r q e d a o i b st l (Is_same x g mine log p1 p2 other) yb =
   where
     deaf : (z : Reply) → reply e ≡ z → onto (w.connection c).unread (done_on c (w.transaction (w.connection c).xid).log) ≡ heard z (onto (w.connection c).unread (done_on c (w.transaction (w.connection c).xid).log))
     deaf Refused h = refl
+    deaf (Listed xids) h = refl
     deaf (Ran op) h =
         let t : is_ran (reply e) ≡ true = ap is_ran h in
         let k = other t in
@@ -279,6 +290,7 @@ ready_served f w c r q e d a o i x s l (inr n) = go e d n
 
     go : (e : Effect) → known.Did (w.server (f.home c)) c r e → IsNews f c r e x s → (g : ℕ) × (b : Branch) × ((w.transaction x).asked s ≡ Some g) × (find x (set w.server (f.home c) (done (w.server (f.home c)) e) s).branches ≡ Some b) × (b.stage ≡ Prepared) × (b.owner ≡ g)
     go Keep d n = absurd n
+    go (Show xids) d n = absurd n
     go (Begin y k) d n = absurd n
     go (Grow b op) d n = absurd n
     go (Close b) d n = absurd n
@@ -294,8 +306,18 @@ ready_served f w c r q e d a o i x s l (inr n) = go e d n
     go (Drop b) d n = absurd n
     go (Install b) d n = absurd n
 
-pub matched_serves : (f : Topology) (w : World) (c : ℕ) (r : Request) (q : List Request) (e : Effect) → known.Did (w.server (f.home c)) c r e → IsAllowed f w c q r → IsOrderly f w → IsMatched f w → IsMatched f (serves f w c q e)
-matched_serves f w c r q e d a o i = record {
+heard_told : (e : Effect) (told : Reply) (log : List Operation) → Says e told → heard (reply e) log ≡ heard told log
+heard_told e told log As_done = refl
+heard_told e told log (Refuses_it n) = go (reply e) n
+  where
+    go : (z : Reply) → is_ran z ≡ false → heard z log ≡ log
+    go Refused h = refl
+    go (Ran op) h = cc
+    go Did h = refl
+    go (Listed xids) h = refl
+
+pub matched_serves : (f : Topology) (w : World) (c : ℕ) (r : Request) (q : List Request) (e : Effect) (told : Reply) → Says e told → known.Did (w.server (f.home c)) c r e → IsAllowed f w c q r → IsOrderly f w → IsMatched f w → IsMatched f (serves f w c q e told)
+matched_serves f w c r q e told says d a o i = record {
   told = λ g b st l h mine. set_cases (λ k (ch : Connection). ch.missed ≡ false → is_live (readying f w c e ch.xid).phase ≡ true → find ch.xid (set w.server (f.home c) (done (w.server (f.home c)) e) (f.home k)).branches ≡ Some b → b.owner ≡ k
       → b.log ≡ onto ch.unread (done_on k (readying f w c e ch.xid).log)) w.connection c _ g
       (λ st l h mine. told_here b st l h mine) (λ ne st l h mine. told_else g b ne st l h mine) st l h mine;
@@ -307,14 +329,15 @@ matched_serves f w c r q e d a o i = record {
 }
   where
     told_here : (b : Branch) → ((w.connection c).missed || not (w.connection c).stands) ≡ false → is_live (readying f w c e (w.connection c).xid).phase ≡ true → find (w.connection c).xid (set w.server (f.home c) (done (w.server (f.home c)) e) (f.home c)).branches ≡ Some b → b.owner ≡ c
-        → b.log ≡ onto (cond (w.connection c).stands ((w.connection c).unread ++ reply e ∷ []) []) (done_on c (readying f w c e (w.connection c).xid).log)
+        → b.log ≡ onto (cond (w.connection c).stands ((w.connection c).unread ++ told ∷ []) []) (done_on c (readying f w c e (w.connection c).xid).log)
     told_here b st l h mine =
         let p = served_rest f w c e (w.connection c).xid in
         let t : find (w.connection c).xid (done (w.server (f.home c)) e).branches ≡ Some b = grind (arith, nat_tests) in
         let stands : (w.connection c).stands ≡ true = grind arith in
         told_served f w c r q e d a o i b (grind arith) (ap is_live (sym p.0) ∙ l) (track _ c r e d (o.locked (f.home c)) _ b t) mine
-        ∙ sym (onto_more (w.connection c).unread (reply e) (done_on c (w.transaction (w.connection c).xid).log))
-        ∙ ap₂ (λ rs log. onto rs (done_on c log)) (ap (λ v. cond v ((w.connection c).unread ++ reply e ∷ []) []) (sym stands)) (sym p.1)
+        ∙ heard_told e told (onto (w.connection c).unread (done_on c (w.transaction (w.connection c).xid).log)) says
+        ∙ sym (onto_more (w.connection c).unread told (done_on c (w.transaction (w.connection c).xid).log))
+        ∙ ap₂ (λ rs log. onto rs (done_on c log)) (ap (λ v. cond v ((w.connection c).unread ++ told ∷ []) []) (sym stands)) (sym p.1)
 
     log_same : (x : ℕ) → (readying f w c e x).log ≡ (w.transaction x).log
     log_same x = (served_rest f w c e x).1
@@ -346,11 +369,13 @@ matched_serves f w c r q e d a o i = record {
 -- ---- an answer is read
 onto_first : (r : Reply) (q : List Reply) (log : List Operation) → onto (r ∷ q) log ≡ onto q (heard r log)
 onto_first Refused q log = refl
+onto_first (Listed xids) q log = refl
 onto_first (Ran op) q log = refl
 onto_first Did q log = refl
 
 done_on_heard : (c : ℕ) (r : Reply) (log : List Step) → done_on c (noting c r log) ≡ heard r (done_on c log)
 done_on_heard c Refused log = refl
+done_on_heard c (Listed xids) log = refl
 done_on_heard c (Ran op) log = grind (arith, nat_tests)
 done_on_heard c Did log = refl
 
@@ -402,6 +427,7 @@ matched_sends f w c (Start y) m o i = matched_queue f w c _ i
 matched_sends f w c (Scan fp) m o i = matched_queue f w c _ i
 matched_sends f w c (Change fp rows) m o i = matched_queue f w c _ i
 matched_sends f w c (End y) m o i = matched_queue f w c _ i
+matched_sends f w c Recover m o i = matched_queue f w c _ i
 matched_sends f w c (Prepare y) m o i = matched_queue f (notes_asked f w c y) c _ (matched_asked f w c y (grind arith) (grind (arith, nat_tests)) (grind arith) (is_none_from _ (grind arith)) o i)
 matched_sends f w c (Commit y) m o i = matched_queue f w c _ i
 matched_sends f w c (Rollback y) m o i = matched_queue f w c _ i
@@ -421,7 +447,22 @@ matched_happens f w (Delivers c) o i = go (w.connection c).queue refl
     go [] e = i
     go (r ∷ q) e =
         let a = subst (λ p. AreAllowed f w c p) e (o.sent c) in
-        matched_serves f w c r q _ (known.did (w.server (f.home c)) c r (o.locked (f.home c)).distinct) a.0 o i
+        matched_serves f w c r q _ _ As_done (known.did (w.server (f.home c)) c r (o.locked (f.home c)).distinct) a.0 o i
+matched_happens f w (Refuses c) o i = go (w.connection c).queue refl
+  where
+    go : (q : List Request) → (w.connection c).queue ≡ q → IsMatched f (refuses f w c q)
+    go [] e = i
+    go (r ∷ q) e =
+        let a = subst (λ p. AreAllowed f w c p) e (o.sent c) in
+        matched_serves f w c r q Keep Refused As_done Kept a.0 o i
+matched_happens f w (Faults c found) o i = go (w.connection c).queue refl
+  where
+    go : (q : List Request) → (w.connection c).queue ≡ q → IsMatched f (faults f w c found q)
+    go [] e = i
+    go (r ∷ q) e =
+        let a = subst (λ p. AreAllowed f w c p) e (o.sent c) in
+        let d = did_left (w.server (f.home c)) c r _ found (known.did (w.server (f.home c)) c r (o.locked (f.home c)).distinct) in
+        matched_fewer f _ (f.home c) _ (λ b p. ap is_prepared p) (orderly_serves f w c r q _ Refused (says_left found _) d a.0 a.1 o) (matched_serves f w c r q _ Refused (says_left found _) d a.0 o i)
 matched_happens f w (Reads c) o i = go (w.connection c).unread refl
   where
     go : (q : List Reply) → (w.connection c).unread ≡ q → IsMatched f (reads w c q)

@@ -8,13 +8,13 @@ use Rattle.commit_protocol.specs.Backend.Stage.{Prepared}
 use Rattle.commit_protocol.specs.Backend.Request.{Commit, Rollback}
 use Rattle.commit_protocol.specs.Backend.Effect.{Drop, Install}
 use Rattle.commit_protocol.specs.Network.{Topology, Reply, dialled_now}
-use Rattle.commit_protocol.specs.Protocol.{World, Decision, Move, decided_at, has_member, is_member_of, is_fresh, is_live, is_undecided, done_on, may_ask, asks, delivers, reads, uses_connection, with_phase, with_connection, sees_hangup, may_decide, writes, recorded, happens, run, start, done_at, decided_rows, with_pending, view_from, view, First, decides_member}
+use Rattle.commit_protocol.specs.Protocol.{World, Decision, Move, decided_at, has_member, is_member_of, is_fresh, is_live, is_undecided, done_on, may_ask, asks, delivers, refuses, faults, reads, uses_connection, with_phase, with_connection, sees_hangup, may_decide, writes, recorded, happens, run, start, done_at, decided_rows, with_pending, view_from, view, First, decides_member}
 use Rattle.commit_protocol.specs.Protocol.Phase.{Live, Over}
-use Rattle.commit_protocol.specs.Protocol.Move.{Draws, Dials, Uses, Sends, Delivers, Reads, Breaks, Hangup_seen, Writes, Recorded, Gives_up, Stops, Front_stops, Reopens}
+use Rattle.commit_protocol.specs.Protocol.Move.{Draws, Dials, Uses, Sends, Delivers, Refuses, Faults, Reads, Breaks, Hangup_seen, Writes, Recorded, Gives_up, Stops, Front_stops, Reopens}
 use Rattle.protocol_law.proofs.Branches.{find_xid}
 use Rattle.protocol_law.proofs.Logs.{untouched}
 use Rattle.protocol_law.proofs.Effects as known
-use Rattle.protocol_law.proofs.Effects.Did.{Kept, Begun, Grew, Closed, Readied, Dropped, Installed}
+use Rattle.protocol_law.proofs.Effects.Did.{Kept, Showed, Begun, Grew, Closed, Readied, Dropped, Installed}
 use Rattle.protocol_law.proofs.Traffic.{IsOrderly, IsAllowed, AreAllowed, Waits, guarded, unless, orderly_happens, orderly_start}
 use Rattle.protocol_law.proofs.Matched.{IsMatched, matched_happens, matched_start}
 use Rattle.protocol_law.proofs.Serial.{IsSerial, counts, same_held, has_branch, serial_happens, serial_start}
@@ -109,6 +109,7 @@ first_allowed f w c r (p ∷ q) h a = (q, subst (λ z. IsAllowed f w c q z) h a.
 
 dropped_is : (s : Server) (c : ℕ) (r : Request) (e : Effect) (b : Branch) → known.Did s c r e → e ≡ Drop b → r ≡ Rollback b.xid
 dropped_is s c r e b Kept h = cc
+dropped_is s c r e b Showed h = cc
 dropped_is s c r e b (Begun f o) h = cc
 dropped_is s c r e b (Grew f mine stage free right locks) h = cc
 dropped_is s c r e b (Closed f mine stage) h = cc
@@ -118,6 +119,7 @@ dropped_is s c r e b (Installed f stage) h = cc
 
 installed_is : (s : Server) (c : ℕ) (r : Request) (e : Effect) (b : Branch) → known.Did s c r e → e ≡ Install b → r ≡ Commit b.xid
 installed_is s c r e b Kept h = cc
+installed_is s c r e b Showed h = cc
 installed_is s c r e b (Begun f o) h = cc
 installed_is s c r e b (Grew f mine stage free right locks) h = cc
 installed_is s c r e b (Closed f mine stage) h = cc
@@ -144,6 +146,8 @@ is_deciding (Dials c) = false
 is_deciding (Uses c x) = false
 is_deciding (Sends c r) = false
 is_deciding (Delivers c) = false
+is_deciding (Refuses c) = false
+is_deciding (Faults c found) = false
 is_deciding (Reads c) = false
 is_deciding (Breaks c) = false
 is_deciding (Hangup_seen c) = false
@@ -163,6 +167,16 @@ same_history f w (Sends c r) h = guarded (λ v. v.history ≡ w.history) (may_as
 same_history f w (Delivers c) h = go (w.connection c).queue
   where
     go : (q : List Request) → (delivers f w c q).history ≡ w.history
+    go [] = refl
+    go (r ∷ q) = refl
+same_history f w (Refuses c) h = go (w.connection c).queue
+  where
+    go : (q : List Request) → (refuses f w c q).history ≡ w.history
+    go [] = refl
+    go (r ∷ q) = refl
+same_history f w (Faults c found) h = go (w.connection c).queue
+  where
+    go : (q : List Request) → (faults f w c found q).history ≡ w.history
     go [] = refl
     go (r ∷ q) = refl
 same_history f w (Reads c) h = go (w.connection c).unread
@@ -199,6 +213,8 @@ held_stays f w m i s x k b h held n = view_is f (happens f w m) (sound_happens f
     go (Uses c y) n = ap (λ z. decided_rows f s z k) (same_history f w (Uses c y) refl)
     go (Sends c r) n = ap (λ z. decided_rows f s z k) (same_history f w (Sends c r) refl)
     go (Delivers c) n = ap (λ z. decided_rows f s z k) (same_history f w (Delivers c) refl)
+    go (Refuses c) n = ap (λ z. decided_rows f s z k) (same_history f w (Refuses c) refl)
+    go (Faults c found) n = ap (λ z. decided_rows f s z k) (same_history f w (Faults c found) refl)
     go (Reads c) n = ap (λ z. decided_rows f s z k) (same_history f w (Reads c) refl)
     go (Breaks c) n = refl
     go (Hangup_seen c) n = ap (λ z. decided_rows f s z k) (same_history f w (Hangup_seen c) refl)

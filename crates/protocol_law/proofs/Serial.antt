@@ -7,15 +7,17 @@ use Rattle.commit_protocol.specs.Rows.Operation.{Scanned, Changed}
 use Rattle.commit_protocol.specs.Backend.{Branch, Server, Request, Effect, find, is_prepared, kept, without, blocked, done, hung_up, stopped}
 use Rattle.commit_protocol.specs.Backend.Request.{Prepare}
 use Rattle.commit_protocol.specs.Network.{Topology, Connection, Reply, set, dialled_now, broken}
-use Rattle.commit_protocol.specs.Protocol.{World, Transaction, Step, Phase, Decision, Move, is_fresh, is_live, is_writing, is_over, is_undecided, decided_at, has_member, is_member, may_ask, asks, asking, serves, delivers, reads, may_decide, are_ready, is_at, writes, recorded, new_boot, uses_connection, with_phase, with_connection, sees_hangup, stops, front_stops, happens, start, done_on, done_at, decided_rows, IsSerialAt}
+use Rattle.commit_protocol.specs.Protocol.{World, Transaction, Step, Phase, Decision, Move, is_fresh, is_live, is_writing, is_over, is_undecided, decided_at, has_member, is_member, may_ask, asks, asking, serves, delivers, refuses, faults, reads, may_decide, are_ready, is_at, writes, recorded, new_boot, uses_connection, with_phase, with_connection, sees_hangup, stops, front_stops, happens, start, done_on, done_at, decided_rows, IsSerialAt}
+use Rattle.commit_protocol.specs.Backend.Effect.{Keep}
+use Rattle.commit_protocol.specs.Network.Reply.{Refused}
 use Rattle.commit_protocol.specs.Protocol.Phase.{Fresh, Live, Writing, Over}
-use Rattle.commit_protocol.specs.Protocol.Move.{Draws, Dials, Uses, Sends, Delivers, Reads, Breaks, Hangup_seen, Writes, Recorded, Gives_up, Stops, Front_stops, Reopens}
+use Rattle.commit_protocol.specs.Protocol.Move.{Draws, Dials, Uses, Sends, Delivers, Refuses, Faults, Reads, Breaks, Hangup_seen, Writes, Recorded, Gives_up, Stops, Front_stops, Reopens}
 use Rattle.protocol_law.proofs.Branches.{find_xid, find_kept, find_kept_there, find_without}
 use Rattle.protocol_law.proofs.Logs.{touched_is_owned, clear_of, owned_is_held, owned_is_held_by_none, untouched, touched, same_after, still_right}
 use Rattle.protocol_law.proofs.Effects as known
-use Rattle.protocol_law.proofs.Effects.Did.{Kept, Begun, Grew, Closed, Readied, Dropped, Installed}
+use Rattle.protocol_law.proofs.Effects.Did.{Kept, Showed, Begun, Grew, Closed, Readied, Dropped, Installed}
 use Rattle.protocol_law.proofs.Locks.{not_blocked}
-use Rattle.protocol_law.proofs.Traffic.{IsOrderly, IsAllowed, AreAllowed, IsWaiting, Waits, set_cases, guarded, unless, with_server, ready_member}
+use Rattle.protocol_law.proofs.Traffic.{IsOrderly, IsAllowed, AreAllowed, IsWaiting, Waits, set_cases, guarded, unless, with_server, ready_member, orderly_serves, says_left, did_left}
 use Rattle.protocol_law.proofs.Matched.{IsMatched, Track, track, stays_but, is_install}
 use Rattle.protocol_law.proofs.Matched.Track.{Is_new, Has_grown, Is_same}
 
@@ -123,6 +125,7 @@ base_after f w c r q e d al o i k h = go r e d al (cases_Bool (is_install e)) h
     go : (r : Request) (e : Effect) → known.Did (w.server (f.home c)) c r e → IsAllowed f w c q r → (is_install e ≡ true) ⊎ (is_install e ≡ false)
         → ((x : ℕ) (b : Branch) → find x (done (w.server (f.home c)) e).branches ≡ Some b → counts f w.history (f.home c) b ≡ true → touches b.log k ≡ false) → (done (w.server (f.home c)) e).rows k ≡ decided_rows f (f.home c) w.history k
     go r e Kept al n h = i.base (f.home c) k h
+    go r e Showed al n h = i.base (f.home c) k h
     go r e (Begun g p) al n h = stays_on _ _ (Begun g p) al refl h
     go r e (Grew g mine stage free right locks) al n h = stays_on _ _ (Grew g mine stage free right locks) al refl h
     go r e (Closed g mine stage) al n h = stays_on _ _ (Closed g mine stage) al refl h
@@ -143,8 +146,8 @@ base_after f w c r q e d al o i k h = go r e d al (cases_Bool (is_install e)) h
             ap (λ (z : Branch). touches z.log k) same ∙ t
         other x a b m g t h (inr ne) = h (grind (arith, nat_tests, find_without b.xid x (w.server (f.home c)).branches))
 
-pub serial_serves : (f : Topology) (w : World) (c : ℕ) (r : Request) (q : List Request) (e : Effect) → known.Did (w.server (f.home c)) c r e → IsAllowed f w c q r → IsOrderly f w → IsSerial f w → IsSerial f (serves f w c q e)
-serial_serves f w c r q e d al o i =
+pub serial_serves : (f : Topology) (w : World) (c : ℕ) (r : Request) (q : List Request) (e : Effect) (told : Reply) → known.Did (w.server (f.home c)) c r e → IsAllowed f w c q r → IsOrderly f w → IsSerial f w → IsSerial f (serves f w c q e told)
+serial_serves f w c r q e told d al o i =
     let now : (y : ℕ) (b : Branch) (h : find y (done (w.server (f.home c)) e).branches ≡ Some b) → Track (w.server (f.home c)) c r e y b = λ y b h. track _ c r e d (o.locked (f.home c)) y b h in
     record {
       right = λ s x b. set_cases (λ t (v : Server). find x v.branches ≡ Some b → counts f w.history t b ≡ false → AreRight (decided_rows f t w.history) b.log) w.server (f.home c) _ s (λ h. (serial_after f w c r q e d al o i x b h (now x b h)).0) (λ ne. i.right s x b);
@@ -313,7 +316,22 @@ serial_happens f w (Delivers c) k o m i = go (w.connection c).queue refl
     go [] e = i
     go (r ∷ q) e =
         let a = subst (λ p. AreAllowed f w c p) e (o.sent c) in
-        serial_serves f w c r q _ (known.did (w.server (f.home c)) c r (o.locked (f.home c)).distinct) a.0 o i
+        serial_serves f w c r q _ _ (known.did (w.server (f.home c)) c r (o.locked (f.home c)).distinct) a.0 o i
+serial_happens f w (Refuses c) k o m i = go (w.connection c).queue refl
+  where
+    go : (q : List Request) → (w.connection c).queue ≡ q → IsSerial f (refuses f w c q)
+    go [] e = i
+    go (r ∷ q) e =
+        let a = subst (λ p. AreAllowed f w c p) e (o.sent c) in
+        serial_serves f w c r q Keep Refused Kept a.0 o i
+serial_happens f w (Faults c found) k o m i = go (w.connection c).queue refl
+  where
+    go : (q : List Request) → (w.connection c).queue ≡ q → IsSerial f (faults f w c found q)
+    go [] e = i
+    go (r ∷ q) e =
+        let a = subst (λ p. AreAllowed f w c p) e (o.sent c) in
+        let d = did_left (w.server (f.home c)) c r _ found (known.did (w.server (f.home c)) c r (o.locked (f.home c)).distinct) in
+        serial_fewer f _ (f.home c) _ (λ b p. p) (orderly_serves f w c r q _ Refused (says_left found _) d a.0 a.1 o) (serial_serves f w c r q _ Refused d a.0 o i)
 serial_happens f w (Reads c) k o m i = go (w.connection c).unread
   where
     go : (q : List Reply) → IsSerial f (reads w c q)

@@ -4,23 +4,24 @@ use Rattle.std.proofs.lemmas.Bool.Decides.{nat_tests}
 use Rattle.std.proofs.lemmas.Bool.{cases_Bool}
 use Rattle.commit_protocol.specs.Backend.{Branch, Server, Request, Effect, find, owned, is_prepared, kept, done}
 use Rattle.commit_protocol.specs.Backend.Stage.{Active, Ended, Prepared}
-use Rattle.commit_protocol.specs.Backend.Request.{Start, Scan, Change, End, Prepare, Commit, Rollback}
-use Rattle.commit_protocol.specs.Backend.Effect.{Keep, Begin, Grow, Close, Ready, Drop, Install}
+use Rattle.commit_protocol.specs.Backend.Request.{Start, Scan, Change, End, Prepare, Commit, Rollback, Recover}
+use Rattle.commit_protocol.specs.Backend.Effect.{Keep, Show, Begin, Grow, Close, Ready, Drop, Install}
 use Rattle.commit_protocol.specs.Network.{Topology, Connection, Reply, set, no_requests, no_replies, is_empty, is_idle, after_serving, reply, begins, dialled_now, broken, ended}
-use Rattle.commit_protocol.specs.Protocol.{World, Transaction, Decision, Step, Phase, Move, is_fresh, is_live, is_writing, is_over, is_undecided, decided_at, has_member, may_ask, asks, asking, serves, readying, delivers, reads, noting, done_on, may_decide, are_ready, writes, recorded, dead, uses_connection, with_phase, sees_hangup, stops, happens, start}
-use Rattle.commit_protocol.specs.Network.Reply.{Refused, Ran, Did}
+use Rattle.commit_protocol.specs.Protocol.{World, Transaction, Decision, Step, Phase, Move, is_fresh, is_live, is_writing, is_over, is_undecided, decided_at, has_member, may_ask, asks, asking, serves, does, readying, delivers, refuses, is_durable, left_of, faults, reads, noting, done_on, may_decide, are_ready, writes, recorded, dead, uses_connection, with_phase, sees_hangup, stops, happens, start}
+use Rattle.commit_protocol.specs.Network.Reply.{Refused, Ran, Did, Listed}
 use Rattle.commit_protocol.specs.Protocol.Phase.{Fresh, Live, Writing, Over}
 use Rattle.protocol_law.proofs.Branches.{find_kept}
 use Rattle.protocol_law.proofs.Effects as known
-use Rattle.protocol_law.proofs.Effects.Did.{Kept, Begun, Grew, Closed, Readied, Dropped, Installed}
+use Rattle.protocol_law.proofs.Effects.Did.{Kept, Showed, Begun, Grew, Closed, Readied, Dropped, Installed}
 use Rattle.protocol_law.proofs.Locks.{IsLocked, put_cases, locked_done, locked_kept, locked_new}
-use Rattle.commit_protocol.specs.Protocol.Move.{Draws, Dials, Uses, Sends, Delivers, Reads, Breaks, Hangup_seen, Writes, Recorded, Gives_up, Stops, Front_stops, Reopens}
+use Rattle.commit_protocol.specs.Protocol.Move.{Draws, Dials, Uses, Sends, Delivers, Refuses, Faults, Reads, Breaks, Hangup_seen, Writes, Recorded, Gives_up, Stops, Front_stops, Reopens}
 
 abbrev pub is_settling : Request → Bool
 is_settling (Start x) = false
 is_settling (Scan fp) = false
 is_settling (Change fp rows) = false
 is_settling (End x) = false
+is_settling Recover = true
 is_settling (Prepare x) = false
 is_settling (Commit x) = true
 is_settling (Rollback x) = true
@@ -31,6 +32,7 @@ all_settling (r ∷ rs) = is_settling r && all_settling rs
 
 abbrev pub is_ran : Reply → Bool
 is_ran Refused = false
+is_ran (Listed xids) = false
 is_ran (Ran op) = true
 is_ran Did = false
 
@@ -44,6 +46,7 @@ IsAllowed f w c rest (Start y) = (y ≡ (w.connection c).xid) × ((w.connection 
 IsAllowed f w c rest (Scan fp) = ((w.connection c).begun ≡ true) × ((w.transaction (w.connection c).xid).asked (f.home c) ≢ Some c)
 IsAllowed f w c rest (Change fp rows) = ((w.connection c).begun ≡ true) × ((w.transaction (w.connection c).xid).asked (f.home c) ≢ Some c)
 IsAllowed f w c rest (End y) = Unit {0}
+IsAllowed f w c rest Recover = Unit {0}
 IsAllowed f w c rest (Prepare y) = (y ≡ (w.connection c).xid) × ((w.transaction y).asked (f.home c) ≡ Some c) × ((w.transaction y).ready (f.home c) ≡ false) × (all_settling rest ≡ true)
 IsAllowed f w c rest (Commit y) = decided_at f w.history y (f.home c) ≡ true
 IsAllowed f w c rest (Rollback y) = (is_over (w.transaction y).phase ≡ true) × (decided_at f w.history y (f.home c) ≡ false)
@@ -76,6 +79,7 @@ phase_allowed f w x p c over rest (Start y) a = grind (arith, nat_tests)
 phase_allowed f w x p c over rest (Scan fp) a = grind (arith, nat_tests)
 phase_allowed f w x p c over rest (Change fp rows) a = grind (arith, nat_tests)
 phase_allowed f w x p c over rest (End y) a = tt
+phase_allowed f w x p c over rest Recover a = tt
 phase_allowed f w x p c over rest (Prepare y) a = grind (arith, nat_tests)
 phase_allowed f w x p c over rest (Commit y) a = a
 phase_allowed f w x p c over rest (Rollback y) a = grind (arith, nat_tests)
@@ -116,6 +120,7 @@ uses_allowed f w c x d ne rest (Start y) a = grind (arith, nat_tests)
 uses_allowed f w c x d ne rest (Scan fp) a = grind (arith, nat_tests)
 uses_allowed f w c x d ne rest (Change fp rows) a = grind (arith, nat_tests)
 uses_allowed f w c x d ne rest (End y) a = tt
+uses_allowed f w c x d ne rest Recover a = tt
 uses_allowed f w c x d ne rest (Prepare y) a = grind (arith, nat_tests)
 uses_allowed f w c x d ne rest (Commit y) a = a
 uses_allowed f w c x d ne rest (Rollback y) a = grind (arith, nat_tests)
@@ -153,6 +158,7 @@ is_last (Start x) = true
 is_last (Scan fp) = false
 is_last (Change fp rows) = false
 is_last (End x) = false
+is_last Recover = false
 is_last (Prepare x) = true
 is_last (Commit x) = false
 is_last (Rollback x) = false
@@ -163,6 +169,7 @@ still_last f w c q (Start y) r a (inr g) = cc
 still_last f w c q (Scan fp) r a g = a
 still_last f w c q (Change fp rows) r a g = a
 still_last f w c q (End y) r a g = tt
+still_last f w c q Recover r a g = tt
 still_last f w c q (Prepare y) r a (inl g) = (a.0, a.1, a.2, settling_more q r a.3 g)
 still_last f w c q (Prepare y) r a (inr g) = cc
 still_last f w c q (Commit y) r a g = a
@@ -182,6 +189,7 @@ queue_allowed f w c d q rest (Start y) a = grind (arith, nat_tests)
 queue_allowed f w c d q rest (Scan fp) a = grind (arith, nat_tests)
 queue_allowed f w c d q rest (Change fp rows) a = grind (arith, nat_tests)
 queue_allowed f w c d q rest (End y) a = tt
+queue_allowed f w c d q rest Recover a = tt
 queue_allowed f w c d q rest (Prepare y) a = grind (arith, nat_tests)
 queue_allowed f w c d q rest (Commit y) a = a
 queue_allowed f w c d q rest (Rollback y) a = a
@@ -209,6 +217,7 @@ not_last f w c b n rest (Start y) a = cc (a.1, b)
 not_last f w c b n rest (Scan fp) a = refl
 not_last f w c b n rest (Change fp rows) a = refl
 not_last f w c b n rest (End y) a = refl
+not_last f w c b n rest Recover a = refl
 not_last f w c b n rest (Prepare y) a = let e : (w.transaction (w.connection c).xid).asked (f.home c) ≡ Some c = subst (λ z. (w.transaction z).asked (f.home c) ≡ Some c) a.0 a.1 in cc
 not_last f w c b n rest (Commit y) a = refl
 not_last f w c b n rest (Rollback y) a = refl
@@ -226,6 +235,7 @@ asked_allowed f w c y d n ne rest (Start z) a = grind (arith, nat_tests)
 asked_allowed f w c y d n ne rest (Scan fp) a = (a.0, λ e. grind (arith, nat_tests))
 asked_allowed f w c y d n ne rest (Change fp rows) a = (a.0, λ e. grind (arith, nat_tests))
 asked_allowed f w c y d n ne rest (End z) a = tt
+asked_allowed f w c y d n ne rest Recover a = tt
 asked_allowed f w c y d n ne rest (Prepare z) a = grind (arith, nat_tests)
 asked_allowed f w c y d n ne rest (Commit z) a = a
 asked_allowed f w c y d n ne rest (Rollback z) a = grind (arith, nat_tests)
@@ -266,6 +276,7 @@ orderly_sends f w c (Change fp rows) m i =
 orderly_sends f w c (End y) m i =
     let asked : (w.connection c).queue ≡ [] = none_asked (w.connection c).queue (grind arith) in
     orderly_queue f w c _ (rw asked (tt, tt)) i
+orderly_sends f w c Recover m i = orderly_queue f w c _ (allowed_push f w c Recover (λ rest a h. inl refl) tt (w.connection c).queue (i.sent c)) i
 orderly_sends f w c (Prepare y) m i =
     let asked : (w.connection c).queue ≡ [] = none_asked (w.connection c).queue (grind arith) in
     let n : (w.transaction y).asked (f.home c) ≡ None = is_none_from _ (grind arith) in
@@ -279,6 +290,7 @@ orderly_sends f w c (Rollback y) m i = orderly_queue f w c _ (allowed_push f w c
 pub origin : (s : Server) (c : ℕ) (r : Request) (e : Effect) → known.Did s c r e → IsLocked s → (y : ℕ) (b : Branch) → find y (done s e).branches ≡ Some b
     → ((begins e ≡ true) × (r ≡ Start y) × (b.owner ≡ c) × (owned c s.branches ≡ None) × (b.log ≡ []) × (is_prepared b.stage ≡ false)) ⊎ ((a : Branch) × (find y s.branches ≡ Some a) × (a.owner ≡ b.owner) × (is_prepared b.stage ≡ false → is_prepared a.stage ≡ false))
 origin s c r e Kept i y b h = inr (b, h, refl, λ p. p)
+origin s c r e Showed i y b h = inr (b, h, refl, λ p. p)
 origin s c r e (Begun {x = x} f o) i y b h = grind (arith, nat_tests, put_cases (record { xid = x; stage = Active; owner = c; log = [] }) s.branches y b h)
 origin s c r e (Grew {b = d} {op = op} f mine stage free right locks) i y b h = inr (two (put_cases (record d { log = op ∷ d.log }) s.branches y b h))
   where
@@ -305,6 +317,7 @@ owns_none c y b (d ∷ bs) o h e = grind (arith, nat_tests, owns_none c y b bs)
 -- what a request does to the front's transactions: nothing, but for ready
 pub served_uses : (f : Topology) (w : World) (c : ℕ) (e : Effect) (x d : ℕ) → (readying f w c e x).uses d ≡ (w.transaction x).uses d
 served_uses f w c Keep x d = refl
+served_uses f w c (Show xids) x d = refl
 served_uses f w c (Begin y k) x d = refl
 served_uses f w c (Grow b op) x d = refl
 served_uses f w c (Close b) x d = refl
@@ -314,6 +327,7 @@ served_uses f w c (Install b) x d = refl
 
 pub served_rest : (f : Topology) (w : World) (c : ℕ) (e : Effect) (x : ℕ) → ((readying f w c e x).phase ≡ (w.transaction x).phase) × ((readying f w c e x).log ≡ (w.transaction x).log) × ((readying f w c e x).asked ≡ (w.transaction x).asked)
 served_rest f w c Keep x = (refl, refl, refl)
+served_rest f w c (Show xids) x = (refl, refl, refl)
 served_rest f w c (Begin y k) x = (refl, refl, refl)
 served_rest f w c (Grow b op) x = (refl, refl, refl)
 served_rest f w c (Close b) x = (refl, refl, refl)
@@ -324,6 +338,7 @@ served_rest f w c (Install b) x = (refl, refl, refl)
 -- what is ready then: what was, and what the request was about
 abbrev pub IsNews : Topology → ℕ → Request → Effect → ℕ → ℕ → Type 0
 IsNews f c r Keep x s = ⊥
+IsNews f c r (Show xids) x s = ⊥
 IsNews f c r (Begin y k) x s = ⊥
 IsNews f c r (Grow b op) x s = ⊥
 IsNews f c r (Close b) x s = ⊥
@@ -333,6 +348,7 @@ IsNews f c r (Install b) x s = ⊥
 
 pub served_ready : (f : Topology) (w : World) (c : ℕ) (r : Request) (e : Effect) (x s : ℕ) → ((w.transaction x).ready s ≡ true → (readying f w c e x).ready s ≡ true) × ((readying f w c e x).ready s ≡ true → ((w.transaction x).ready s ≡ true) ⊎ IsNews f c r e x s)
 served_ready f w c r Keep x s = ((λ h. h), λ h. inl h)
+served_ready f w c r (Show xids) x s = ((λ h. h), λ h. inl h)
 served_ready f w c r (Begin y k) x s = ((λ h. h), λ h. inl h)
 served_ready f w c r (Grow b op) x s = ((λ h. h), λ h. inl h)
 served_ready f w c r (Close b) x s = ((λ h. h), λ h. inl h)
@@ -342,6 +358,7 @@ served_ready f w c r (Install b) x s = ((λ h. h), λ h. inl h)
 
 begins_last : (s : Server) (c : ℕ) (r : Request) (e : Effect) → known.Did s c r e → is_last r ≡ false → begins e ≡ false
 begins_last s c r e Kept h = refl
+begins_last s c r e Showed h = refl
 begins_last s c r e (Begun f o) h = cc
 begins_last s c r e (Grew f mine stage free right locks) h = refl
 begins_last s c r e (Closed f mine stage) h = refl
@@ -351,6 +368,7 @@ begins_last s c r e (Installed f stage) h = refl
 
 pub news_prepare : (f : Topology) (s : Server) (c : ℕ) (r : Request) (e : Effect) (x t : ℕ) → known.Did s c r e → IsNews f c r e x t → (r ≡ Prepare x) × (t ≡ f.home c)
 news_prepare f s c r e x t Kept n = absurd n
+news_prepare f s c r e x t Showed n = absurd n
 news_prepare f s c r e x t (Begun g o) n = absurd n
 news_prepare f s c r e x t (Grew g mine stage free right locks) n = absurd n
 news_prepare f s c r e x t (Closed g mine stage) n = absurd n
@@ -359,35 +377,38 @@ news_prepare f s c r e x t (Dropped g w) n = absurd n
 news_prepare f s c r e x t (Installed g stage) n = absurd n
 
 -- where what is new was asked on this connection, what is under way on another is still allowed
-serves_other : (f : Topology) (w : World) (c : ℕ) (r0 : Request) (q : List Request) (e : Effect) (d : ℕ) → d ≢ c → ((x s : ℕ) → IsNews f c r0 e x s → (w.transaction x).asked s ≡ Some c)
-    → (rest : List Request) (r : Request) → IsAllowed f w d rest r → IsAllowed f (serves f w c q e) d rest r
-serves_other f w c r0 q e d ne news rest (Start y) a = grind (arith, nat_tests, served_uses f w c e y d)
-serves_other f w c r0 q e d ne news rest (Scan fp) a = grind (arith, nat_tests, served_rest f w c e (w.connection d).xid)
-serves_other f w c r0 q e d ne news rest (Change fp rows) a = grind (arith, nat_tests, served_rest f w c e (w.connection d).xid)
-serves_other f w c r0 q e d ne news rest (End y) a = tt
-serves_other f w c r0 q e d ne news rest (Prepare y) a = grind (arith, nat_tests, served_rest f w c e y, served_ready f w c r0 e y (f.home d), news y (f.home d))
-serves_other f w c r0 q e d ne news rest (Commit y) a = a
-serves_other f w c r0 q e d ne news rest (Rollback y) a = grind (arith, nat_tests, served_rest f w c e y)
+serves_other : (f : Topology) (w : World) (c : ℕ) (r0 : Request) (q : List Request) (e : Effect) (told : Reply) (d : ℕ) → d ≢ c → ((x s : ℕ) → IsNews f c r0 e x s → (w.transaction x).asked s ≡ Some c)
+    → (rest : List Request) (r : Request) → IsAllowed f w d rest r → IsAllowed f (serves f w c q e told) d rest r
+serves_other f w c r0 q e told d ne news rest (Start y) a = grind (arith, nat_tests, served_uses f w c e y d)
+serves_other f w c r0 q e told d ne news rest (Scan fp) a = grind (arith, nat_tests, served_rest f w c e (w.connection d).xid)
+serves_other f w c r0 q e told d ne news rest (Change fp rows) a = grind (arith, nat_tests, served_rest f w c e (w.connection d).xid)
+serves_other f w c r0 q e told d ne news rest (End y) a = tt
+serves_other f w c r0 q e told d ne news rest Recover a = tt
+serves_other f w c r0 q e told d ne news rest (Prepare y) a = grind (arith, nat_tests, served_rest f w c e y, served_ready f w c r0 e y (f.home d), news y (f.home d))
+serves_other f w c r0 q e told d ne news rest (Commit y) a = a
+serves_other f w c r0 q e told d ne news rest (Rollback y) a = grind (arith, nat_tests, served_rest f w c e y)
 
-serves_same : (f : Topology) (w : World) (c : ℕ) (r0 : Request) (q : List Request) (e : Effect) → begins e ≡ false → ((x s : ℕ) → IsNews f c r0 e x s → ⊥)
-    → (rest : List Request) (r : Request) → IsAllowed f w c rest r → IsAllowed f (serves f w c q e) c rest r
-serves_same f w c r0 q e b news rest (Start y) a = grind (arith, nat_tests, served_uses f w c e y c)
-serves_same f w c r0 q e b news rest (Scan fp) a = grind (arith, nat_tests, served_rest f w c e (w.connection c).xid)
-serves_same f w c r0 q e b news rest (Change fp rows) a = grind (arith, nat_tests, served_rest f w c e (w.connection c).xid)
-serves_same f w c r0 q e b news rest (End y) a = tt
-serves_same f w c r0 q e b news rest (Prepare y) a = grind (arith, nat_tests, served_rest f w c e y, served_ready f w c r0 e y (f.home c), news y (f.home c))
-serves_same f w c r0 q e b news rest (Commit y) a = a
-serves_same f w c r0 q e b news rest (Rollback y) a = grind (arith, nat_tests, served_rest f w c e y)
+serves_same : (f : Topology) (w : World) (c : ℕ) (r0 : Request) (q : List Request) (e : Effect) (told : Reply) → begins e ≡ false → ((x s : ℕ) → IsNews f c r0 e x s → ⊥)
+    → (rest : List Request) (r : Request) → IsAllowed f w c rest r → IsAllowed f (serves f w c q e told) c rest r
+serves_same f w c r0 q e told b news rest (Start y) a = grind (arith, nat_tests, served_uses f w c e y c)
+serves_same f w c r0 q e told b news rest (Scan fp) a = grind (arith, nat_tests, served_rest f w c e (w.connection c).xid)
+serves_same f w c r0 q e told b news rest (Change fp rows) a = grind (arith, nat_tests, served_rest f w c e (w.connection c).xid)
+serves_same f w c r0 q e told b news rest (End y) a = tt
+serves_same f w c r0 q e told b news rest Recover a = tt
+serves_same f w c r0 q e told b news rest (Prepare y) a = grind (arith, nat_tests, served_rest f w c e y, served_ready f w c r0 e y (f.home c), news y (f.home c))
+serves_same f w c r0 q e told b news rest (Commit y) a = a
+serves_same f w c r0 q e told b news rest (Rollback y) a = grind (arith, nat_tests, served_rest f w c e y)
 
-serves_settling : (f : Topology) (w : World) (c : ℕ) (p : List Request) (e : Effect) (q : List Request) → all_settling q ≡ true → AreAllowed f w c q → AreAllowed f (serves f w c p e) c q
-serves_settling f w c p e [] h a = tt
-serves_settling f w c p e (Start y ∷ q) h a = cc
-serves_settling f w c p e (Scan fp ∷ q) h a = cc
-serves_settling f w c p e (Change fp rows ∷ q) h a = cc
-serves_settling f w c p e (End y ∷ q) h a = cc
-serves_settling f w c p e (Prepare y ∷ q) h a = cc
-serves_settling f w c p e (Commit y ∷ q) h a = (a.0, serves_settling f w c p e q (grind arith) a.1)
-serves_settling f w c p e (Rollback y ∷ q) h a = (grind (arith, nat_tests, served_rest f w c e y), serves_settling f w c p e q (grind arith) a.1)
+serves_settling : (f : Topology) (w : World) (c : ℕ) (p : List Request) (e : Effect) (told : Reply) (q : List Request) → all_settling q ≡ true → AreAllowed f w c q → AreAllowed f (serves f w c p e told) c q
+serves_settling f w c p e told [] h a = tt
+serves_settling f w c p e told (Start y ∷ q) h a = cc
+serves_settling f w c p e told (Scan fp ∷ q) h a = cc
+serves_settling f w c p e told (Change fp rows ∷ q) h a = cc
+serves_settling f w c p e told (End y ∷ q) h a = cc
+serves_settling f w c p e told (Prepare y ∷ q) h a = cc
+serves_settling f w c p e told (Recover ∷ q) h a = (tt, serves_settling f w c p e told q (grind arith) a.1)
+serves_settling f w c p e told (Commit y ∷ q) h a = (a.0, serves_settling f w c p e told q (grind arith) a.1)
+serves_settling f w c p e told (Rollback y ∷ q) h a = (grind (arith, nat_tests, served_rest f w c e y), serves_settling f w c p e told q (grind arith) a.1)
 
 -- behind a Start or a Prepare there are restricted settling ones
 behind_last : (f : Topology) (w : World) (c : ℕ) (q : List Request) (r : Request) → IsAllowed f w c q r → (is_last r ≡ false) ⊎ (all_settling q ≡ true)
@@ -395,6 +416,7 @@ behind_last f w c q (Start y) a = inr a.3
 behind_last f w c q (Scan fp) a = inl refl
 behind_last f w c q (Change fp rows) a = inl refl
 behind_last f w c q (End y) a = inl refl
+behind_last f w c q Recover a = inl refl
 behind_last f w c q (Prepare y) a = inr a.3
 behind_last f w c q (Commit y) a = inl refl
 behind_last f w c q (Rollback y) a = inl refl
@@ -402,10 +424,10 @@ behind_last f w c q (Rollback y) a = inl refl
 not_prepare : (r : Request) (x : ℕ) → is_last r ≡ false → r ≡ Prepare x → ⊥
 not_prepare r x h e = let g : is_last (Prepare x) ≡ false = subst (λ z. is_last z ≡ false) e h in cc
 
-rest_allowed : (f : Topology) (w : World) (c : ℕ) (r : Request) (q : List Request) (e : Effect) → known.Did (w.server (f.home c)) c r e → IsAllowed f w c q r → AreAllowed f w c q → AreAllowed f (serves f w c q e) c q
-rest_allowed f w c r q e d head a = ⊎_elim
-    (λ (l : is_last r ≡ false). allowed_still f w (serves f w c q e) c (λ rest s b. serves_same f w c r q e (begins_last _ c r e d l) (λ x t n. not_prepare r x l (news_prepare f _ c r e x t d n).0) rest s b) q a)
-    (λ h. serves_settling f w c q e q h a)
+rest_allowed : (f : Topology) (w : World) (c : ℕ) (r : Request) (q : List Request) (e : Effect) (told : Reply) → known.Did (w.server (f.home c)) c r e → IsAllowed f w c q r → AreAllowed f w c q → AreAllowed f (serves f w c q e told) c q
+rest_allowed f w c r q e told d head a = ⊎_elim
+    (λ (l : is_last r ≡ false). allowed_still f w (serves f w c q e told) c (λ rest s b. serves_same f w c r q e told (begins_last _ c r e d l) (λ x t n. not_prepare r x l (news_prepare f _ c r e x t d n).0) rest s b) q a)
+    (λ h. serves_settling f w c q e told q h a)
     (behind_last f w c q r head)
 
 no_ran_more : (rs : List Reply) (r : Reply) → no_ran rs ≡ true → is_ran r ≡ false → no_ran (rs ++ r ∷ []) ≡ true
@@ -416,11 +438,13 @@ no_ran_more (a ∷ rs) r h g = grind (arith, no_ran_more rs r)
 pub ran_from : (f : Topology) (w : World) (c : ℕ) (q : List Request) (r : Request) (e : Effect) → known.Did (w.server (f.home c)) c r e → IsAllowed f w c q r
     → (is_ran (reply e) ≡ false) ⊎ (((w.connection c).begun ≡ true) × ((w.transaction (w.connection c).xid).asked (f.home c) ≢ Some c))
 ran_from f w c q r e Kept a = inl refl
+ran_from f w c q r e Showed a = inl refl
 ran_from f w c q r e (Begun g o) a = inl refl
 ran_from f w c q (Start y) e (Grew g mine stage free right locks) a = absurd locks
 ran_from f w c q (Scan fp) e (Grew g mine stage free right locks) a = inr a
 ran_from f w c q (Change fp rows) e (Grew g mine stage free right locks) a = inr a
 ran_from f w c q (End y) e (Grew g mine stage free right locks) a = absurd locks
+ran_from f w c q Recover e (Grew g mine stage free right locks) a = absurd locks
 ran_from f w c q (Prepare y) e (Grew g mine stage free right locks) a = absurd locks
 ran_from f w c q (Commit y) e (Grew g mine stage free right locks) a = absurd locks
 ran_from f w c q (Rollback y) e (Grew g mine stage free right locks) a = absurd locks
@@ -431,6 +455,7 @@ ran_from f w c q r e (Installed g stage) a = inl refl
 
 begins_owned : (s : Server) (c : ℕ) (r : Request) (e : Effect) → known.Did s c r e → begins e ≡ true → owned c s.branches ≡ None
 begins_owned s c r e Kept h = cc
+begins_owned s c r e Showed h = cc
 begins_owned s c r e (Begun f o) h = o
 begins_owned s c r e (Grew f mine stage free right locks) h = cc
 begins_owned s c r e (Closed f mine stage) h = cc
@@ -440,6 +465,7 @@ begins_owned s c r e (Installed f stage) h = cc
 
 pub begins_start : (s : Server) (c : ℕ) (r : Request) (e : Effect) → known.Did s c r e → begins e ≡ true → (x : ℕ) × (r ≡ Start x)
 begins_start s c r e Kept h = cc
+begins_start s c r e Showed h = cc
 begins_start s c r e (Begun {x = x} f o) h = (x, refl)
 begins_start s c r e (Grew f mine stage free right locks) h = cc
 begins_start s c r e (Closed f mine stage) h = cc
@@ -449,6 +475,7 @@ begins_start s c r e (Installed f stage) h = cc
 
 pub news_found : (f : Topology) (s : Server) (c : ℕ) (r : Request) (e : Effect) (x t : ℕ) → known.Did s c r e → IsNews f c r e x t → (b : Branch) × (find x s.branches ≡ Some b)
 news_found f s c r e x t Kept n = absurd n
+news_found f s c r e x t Showed n = absurd n
 news_found f s c r e x t (Begun g o) n = absurd n
 news_found f s c r e x t (Grew g mine stage free right locks) n = absurd n
 news_found f s c r e x t (Closed g mine stage) n = absurd n
@@ -477,15 +504,27 @@ used_served f w c r q e d head i y b h = two (origin _ c r e d (i.locked (f.home
     two (inl n) = ap (w.transaction y).uses n.2 ∙ (start_here f w c y r q head n.1).1
     two (inr o) = ap (w.transaction y).uses (sym o.2) ∙ i.used (f.home c) y o.0 o.1
 
-pub orderly_serves : (f : Topology) (w : World) (c : ℕ) (r : Request) (q : List Request) (e : Effect) → known.Did (w.server (f.home c)) c r e → IsAllowed f w c q r → AreAllowed f w c q → IsOrderly f w → IsOrderly f (serves f w c q e)
-orderly_serves f w c r q e d head rest i =
-    let ran = ran_from f w c q r e d head in
+-- what is answered: what the effect says, or a refusal where nothing was run
+pub data Says (e : Effect) : Reply → Type 0 where
+  As_done : Says e (reply e)
+  Refuses_it : is_ran (reply e) ≡ false → Says e Refused
+
+says_ran : (e : Effect) (told : Reply) → Says e told → is_ran (reply e) ≡ false → is_ran told ≡ false
+says_ran e told As_done h = h
+says_ran e told (Refuses_it n) h = refl
+
+pub orderly_serves : (f : Topology) (w : World) (c : ℕ) (r : Request) (q : List Request) (e : Effect) (told : Reply) → Says e told → known.Did (w.server (f.home c)) c r e → IsAllowed f w c q r → AreAllowed f w c q → IsOrderly f w → IsOrderly f (serves f w c q e told)
+orderly_serves f w c r q e told says d head rest i =
+    let ran : (is_ran told ≡ false) ⊎ (((w.connection c).begun ≡ true) × ((w.transaction (w.connection c).xid).asked (f.home c) ≢ Some c)) = ⊎_elim
+    (λ (n : is_ran (reply e) ≡ false). inl (says_ran e told says n))
+    (λ n. inr n)
+    (ran_from f w c q r e d head) in
     let asked_here : (x s : ℕ) → IsNews f c r e x s → (w.transaction x).asked s ≡ Some c = λ x s n. asked_news x s (news_prepare f _ c r e x s d n) in
     record {
       locked = λ s. set_cases (λ t v. IsLocked v) w.server (f.home c) _ s (locked_done _ c r e d (i.locked (f.home c))) (λ ne. i.locked s);
-      sent = λ g. set_cases (λ h ch. AreAllowed f (serves f w c q e) h ch.queue) w.connection c _ g
-          (rest_allowed f w c r q e d head rest)
-          (λ ne. allowed_still f w (serves f w c q e) g (serves_other f w c r q e g ne asked_here) (w.connection g).queue (i.sent g));
+      sent = λ g. set_cases (λ h ch. AreAllowed f (serves f w c q e told) h ch.queue) w.connection c _ g
+          (rest_allowed f w c r q e told d head rest)
+          (λ ne. allowed_still f w (serves f w c q e told) g (serves_other f w c r q e told g ne asked_here) (w.connection g).queue (i.sent g));
       own = λ g y b t h mine p. set_cases (λ s (v : Server). s ≡ f.home g → find y v.branches ≡ Some b → y ≡ (w.connection g).xid) w.server (f.home c) _ (f.home g)
           (λ same k. own_served f w c r q e d head i g y b (grind (arith, nat_tests)) k mine p (sym same))
           (λ ne same k. i.own g y b (grind (arith, nat_tests)) k mine p)
@@ -494,13 +533,13 @@ orderly_serves f w c r q e d head rest i =
           (λ k. used_served f w c r q e d head i x b k)
           (λ ne k. i.used s x b k)
           h;
-      using = λ g h. served_uses f w c e ((serves f w c q e).connection g).xid g ∙ grind (arith, nat_tests, i.using g, using_new);
+      using = λ g h. served_uses f w c e ((serves f w c q e told).connection g).xid g ∙ grind (arith, nat_tests, i.using g, using_new);
       blank = λ x h.
           let fresh : is_fresh (w.transaction x).phase ≡ true = grind (arith, served_rest f w c e x) in
           ((λ g. served_uses f w c e x g ∙ (i.blank x fresh).0 g), λ s. not_new x s fresh ((i.blank x fresh).1 s) (served_ready f w c r e x s).1);
       unused = λ x g h. grind (arith, nat_tests, served_uses f w c e x g, served_rest f w c e x, i.unused x g);
-      first = λ g h. grind (arith, nat_tests, served_rest f w c e (w.connection g).xid, i.first g, no_ran_more (w.connection c).unread (reply e), ran);
-      quiet = λ g h. grind (arith, nat_tests, served_rest f w c e (w.connection g).xid, i.quiet g, no_ran_more (w.connection c).unread (reply e), ran);
+      first = λ g h. grind (arith, nat_tests, served_rest f w c e (w.connection g).xid, i.first g, no_ran_more (w.connection c).unread told, ran);
+      quiet = λ g h. grind (arith, nat_tests, served_rest f w c e (w.connection g).xid, i.quiet g, no_ran_more (w.connection c).unread told, ran);
       at_home = λ x s g h. grind (arith, nat_tests, served_rest f w c e x, i.at_home x s g);
       unready = λ x s h. grind (arith, nat_tests, served_rest f w c e x, served_ready f w c r e x s, asked_here x s, i.unready x s);
       decided = λ x s h. grind (arith, nat_tests, served_rest f w c e x, served_ready f w c r e x s, i.decided x s h);
@@ -518,18 +557,20 @@ orderly_serves f w c r q e d head rest i =
     using_new : begins e ≡ true → (w.transaction (w.connection c).xid).uses c ≡ true
     using_new h = let t = begins_start _ c r e d h in let k = start_here f w c t.0 r q head t.1 in ap (λ y. (w.transaction y).uses c) (sym k.0) ∙ k.1
 
-    same_xid : (g : ℕ) → (set w.connection c (after_serving (w.connection c) q e) g).xid ≡ (w.connection g).xid
+    same_xid : (g : ℕ) → (set w.connection c (after_serving (w.connection c) q e told) g).xid ≡ (w.connection g).xid
     same_xid g = grind (arith, nat_tests)
 
 -- ---- an answer is read
 
 pub done_on_other : (c d : ℕ) (r : Reply) (log : List Step) → d ≢ c → done_on d (noting c r log) ≡ done_on d log
 done_on_other c d Refused log ne = refl
+done_on_other c d (Listed xids) log ne = refl
 done_on_other c d (Ran op) log ne = grind (arith, nat_tests)
 done_on_other c d Did log ne = refl
 
 pub done_on_quiet : (c d : ℕ) (r : Reply) (log : List Step) → is_ran r ≡ false → done_on d (noting c r log) ≡ done_on d log
 done_on_quiet c d Refused log h = refl
+done_on_quiet c d (Listed xids) log h = refl
 done_on_quiet c d (Ran op) log h = cc
 done_on_quiet c d Did log h = refl
 
@@ -538,6 +579,7 @@ reads_allowed f w c r0 q d rest (Start y) a = grind (arith, nat_tests)
 reads_allowed f w c r0 q d rest (Scan fp) a = grind (arith, nat_tests)
 reads_allowed f w c r0 q d rest (Change fp rows) a = grind (arith, nat_tests)
 reads_allowed f w c r0 q d rest (End y) a = tt
+reads_allowed f w c r0 q d rest Recover a = tt
 reads_allowed f w c r0 q d rest (Prepare y) a = grind (arith, nat_tests)
 reads_allowed f w c r0 q d rest (Commit y) a = a
 reads_allowed f w c r0 q d rest (Rollback y) a = grind (arith, nat_tests)
@@ -571,6 +613,7 @@ server_allowed f w s v d rest (Start y) a = a
 server_allowed f w s v d rest (Scan fp) a = a
 server_allowed f w s v d rest (Change fp rows) a = a
 server_allowed f w s v d rest (End y) a = tt
+server_allowed f w s v d rest Recover a = tt
 server_allowed f w s v d rest (Prepare y) a = a
 server_allowed f w s v d rest (Commit y) a = a
 server_allowed f w s v d rest (Rollback y) a = a
@@ -603,6 +646,7 @@ recorded_allowed f w n d waits rest (Start y) a = grind (arith, nat_tests)
 recorded_allowed f w n d waits rest (Scan fp) a = grind (arith, nat_tests)
 recorded_allowed f w n d waits rest (Change fp rows) a = grind (arith, nat_tests)
 recorded_allowed f w n d waits rest (End y) a = tt
+recorded_allowed f w n d waits rest Recover a = tt
 recorded_allowed f w n d waits rest (Prepare y) a = grind (arith, nat_tests)
 recorded_allowed f w n d waits rest (Commit y) a = grind (arith, nat_tests)
 recorded_allowed f w n d waits rest (Rollback y) a = grind (arith, nat_tests)
@@ -636,6 +680,7 @@ progress_allowed f w p d rest (Start y) a = a
 progress_allowed f w p d rest (Scan fp) a = a
 progress_allowed f w p d rest (Change fp rows) a = a
 progress_allowed f w p d rest (End y) a = tt
+progress_allowed f w p d rest Recover a = tt
 progress_allowed f w p d rest (Prepare y) a = a
 progress_allowed f w p d rest (Commit y) a = a
 progress_allowed f w p d rest (Rollback y) a = a
@@ -656,11 +701,46 @@ orderly_progress f w p i = record {
   decided = i.decided;
 }
 
+pub orderly_does : (f : Topology) (w : World) (c : ℕ) (r : Request) (q : List Request) (e : Effect) → (w.connection c).queue ≡ r ∷ q → known.Did (w.server (f.home c)) c r e → IsOrderly f w → IsOrderly f (does f w c q e)
+orderly_does f w c r q e h d i =
+    let a = subst (λ p. AreAllowed f w c p) h (i.sent c) in
+    orderly_serves f w c r q e (reply e) As_done d a.0 a.1 i
+
 pub orderly_delivers : (f : Topology) (w : World) (c : ℕ) (q : List Request) → (w.connection c).queue ≡ q → IsOrderly f w → IsOrderly f (delivers f w c q)
 orderly_delivers f w c [] e i = i
-orderly_delivers f w c (r ∷ q) e i =
+orderly_delivers f w c (r ∷ q) e i = orderly_does f w c r q _ e (known.did (w.server (f.home c)) c r (i.locked (f.home c)).distinct) i
+
+pub orderly_refuses : (f : Topology) (w : World) (c : ℕ) (q : List Request) → (w.connection c).queue ≡ q → IsOrderly f w → IsOrderly f (refuses f w c q)
+orderly_refuses f w c [] e i = i
+orderly_refuses f w c (r ∷ q) e i = orderly_does f w c r q Keep e Kept i
+
+-- what a disk fault leaves of a step is the step or nothing
+pub did_left : (s : Server) (c : ℕ) (r : Request) (e : Effect) (found : Bool) → known.Did s c r e → known.Did s c r (left_of found e)
+did_left s c r e found d = elim (found && is_durable e) as (λ v. known.Did s c r (cond v e Keep)) [ true ↦ d | false ↦ Kept ]
+
+durable_quiet : (e : Effect) → is_durable e ≡ true → is_ran (reply e) ≡ false
+durable_quiet Keep h = refl
+durable_quiet (Show xids) h = refl
+durable_quiet (Begin x c) h = refl
+durable_quiet (Grow b op) h = cc
+durable_quiet (Close b) h = refl
+durable_quiet (Ready b) h = refl
+durable_quiet (Drop b) h = refl
+durable_quiet (Install b) h = refl
+
+left_quiet : (e : Effect) (v : Bool) → (v ≡ true → is_durable e ≡ true) → is_ran (reply (cond v e Keep)) ≡ false
+left_quiet e true h = durable_quiet e (h refl)
+left_quiet e false h = refl
+
+pub says_left : (found : Bool) (e : Effect) → Says (left_of found e) Refused
+says_left found e = Refuses_it (left_quiet e (found && is_durable e) (λ h. grind arith))
+
+pub orderly_faults : (f : Topology) (w : World) (c : ℕ) (found : Bool) (q : List Request) → (w.connection c).queue ≡ q → IsOrderly f w → IsOrderly f (faults f w c found q)
+orderly_faults f w c found [] e i = i
+orderly_faults f w c found (r ∷ q) e i =
     let a = subst (λ p. AreAllowed f w c p) e (i.sent c) in
-    orderly_serves f w c r q _ (known.did (w.server (f.home c)) c r (i.locked (f.home c)).distinct) a.0 a.1 i
+    let d = did_left (w.server (f.home c)) c r _ found (known.did (w.server (f.home c)) c r (i.locked (f.home c)).distinct) in
+    orderly_fewer f _ (f.home c) _ (orderly_serves f w c r q _ Refused (says_left found _) d a.0 a.1 i)
 
 -- a guard that doesn't hold leaves the world
 pub guarded : (P : World → Type 0) (b : Bool) (v w : World) → P w → (b ≡ true → P v) → P (cond b v w)
@@ -691,6 +771,7 @@ less_allowed f w g c l rest (Start y) a = (a.0 ∙ sym l.xid, l.begun ∙ a.1, a
 less_allowed f w g c l rest (Scan fp) a = (l.begun ∙ a.0, λ e. a.1 (ap (λ x. (w.transaction x).asked (f.home c)) (sym l.xid) ∙ e))
 less_allowed f w g c l rest (Change fp rows) a = (l.begun ∙ a.0, λ e. a.1 (ap (λ x. (w.transaction x).asked (f.home c)) (sym l.xid) ∙ e))
 less_allowed f w g c l rest (End y) a = tt
+less_allowed f w g c l rest Recover a = tt
 less_allowed f w g c l rest (Prepare y) a = (a.0 ∙ sym l.xid, a.1, a.2, a.3)
 less_allowed f w g c l rest (Commit y) a = a
 less_allowed f w g c l rest (Rollback y) a = a
@@ -764,6 +845,7 @@ ends_allowed f w c rest (Start y) a = a
 ends_allowed f w c rest (Scan fp) a = a
 ends_allowed f w c rest (Change fp rows) a = a
 ends_allowed f w c rest (End y) a = tt
+ends_allowed f w c rest Recover a = tt
 ends_allowed f w c rest (Prepare y) a = a
 ends_allowed f w c rest (Commit y) a = a
 ends_allowed f w c rest (Rollback y) a = (still_over (w.transaction y) a.0, a.1)
@@ -807,6 +889,8 @@ orderly_happens f w (Dials c) k i = unless (IsOrderly f) (w.connection c).dialle
 orderly_happens f w (Uses c x) k i = guarded (IsOrderly f) _ (uses_connection w c x) w i (λ h. orderly_uses f w c x (grind arith) (grind arith) (grind arith) i)
 orderly_happens f w (Sends c r) k i = guarded (IsOrderly f) (may_ask f w c r) (asks f w c r) w i (λ h. orderly_sends f w c r h i)
 orderly_happens f w (Delivers c) k i = orderly_delivers f w c (w.connection c).queue refl i
+orderly_happens f w (Refuses c) k i = orderly_refuses f w c (w.connection c).queue refl i
+orderly_happens f w (Faults c found) k i = orderly_faults f w c found (w.connection c).queue refl i
 orderly_happens f w (Reads c) k i = go (w.connection c).unread refl
   where
     go : (q : List Reply) → (w.connection c).unread ≡ q → IsOrderly f (reads w c q)

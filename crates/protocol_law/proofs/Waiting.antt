@@ -2,11 +2,11 @@
 use Rattle.std.proofs.Common.{◌≡◌, ℕ, true, false, cond, List, [], ◌∷◌, Option, Some, None, refl, sym, ap, ◌∙◌, subst, arith}
 use Rattle.std.proofs.lemmas.Bool.Decides.{nat_tests}
 use Rattle.commit_protocol.specs.Backend.{Request, Effect, effect}
-use Rattle.commit_protocol.specs.Backend.Request.{Start, Scan, Change, End, Prepare, Commit, Rollback}
+use Rattle.commit_protocol.specs.Backend.Request.{Start, Scan, Change, End, Prepare, Commit, Rollback, Recover}
 use Rattle.commit_protocol.specs.Network.{Topology, Reply, set, dialled_now}
-use Rattle.commit_protocol.specs.Protocol.{World, Transaction, Decision, Phase, Move, is_fresh, is_live, is_writing, may_ask, asks, readying, delivers, noting, reading, reads, may_decide, may_use, are_ready, is_at, writes, recorded, uses_connection, with_phase, with_connection, sees_hangup, happens, start}
+use Rattle.commit_protocol.specs.Protocol.{World, Transaction, Decision, Phase, Move, is_fresh, is_live, is_writing, may_ask, asks, readying, delivers, refuses, left_of, faults, noting, reading, reads, may_decide, may_use, are_ready, is_at, writes, recorded, uses_connection, with_phase, with_connection, sees_hangup, happens, start}
 use Rattle.commit_protocol.specs.Protocol.Phase.{Fresh, Live, Writing, Over}
-use Rattle.commit_protocol.specs.Protocol.Move.{Draws, Dials, Uses, Sends, Delivers, Reads, Breaks, Hangup_seen, Writes, Recorded, Gives_up, Stops, Front_stops, Reopens}
+use Rattle.commit_protocol.specs.Protocol.Move.{Draws, Dials, Uses, Sends, Delivers, Refuses, Faults, Reads, Breaks, Hangup_seen, Writes, Recorded, Gives_up, Stops, Front_stops, Reopens}
 use Rattle.protocol_law.proofs.Traffic.{IsWaiting, Waits, set_cases, guarded, unless, served_rest, served_ready, is_none_from}
 use Rattle.protocol_law.proofs.Serial.{is_at_from}
 
@@ -69,6 +69,7 @@ waits_sends f w c (Start y) m k = k
 waits_sends f w c (Scan fp) m k = k
 waits_sends f w c (Change fp rows) m k = k
 waits_sends f w c (End y) m k = k
+waits_sends f w c Recover m k = k
 waits_sends f w c (Prepare y) m k = waits_else f w (asks f w c (Prepare y)) refl (lasts_at w y _ (record { phase = λ h. h; log = λ h. refl; asked = λ s d h. grind (arith, nat_tests, none, h); ready = λ s h. h })) k
   where
     none : (w.transaction y).asked (f.home c) ≡ None
@@ -115,6 +116,16 @@ waits_happens f w (Delivers c) k = go (w.connection c).queue
     go : (q : List Request) → Waits f (delivers f w c q)
     go [] = k
     go (r ∷ q) = waits_else f w (delivers f w c (r ∷ q)) refl (lasts_served f w c r (effect (w.server (f.home c)) c r)) k
+waits_happens f w (Refuses c) k = go (w.connection c).queue
+  where
+    go : (q : List Request) → Waits f (refuses f w c q)
+    go [] = k
+    go (r ∷ q) = k
+waits_happens f w (Faults c found) k = go (w.connection c).queue
+  where
+    go : (q : List Request) → Waits f (faults f w c found q)
+    go [] = k
+    go (r ∷ q) = waits_else f w (faults f w c found (r ∷ q)) refl (lasts_served f w c r (left_of found (effect (w.server (f.home c)) c r))) k
 waits_happens f w (Reads c) k = go (w.connection c).unread
   where
     go : (q : List Reply) → Waits f (reads w c q)

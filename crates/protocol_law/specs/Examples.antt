@@ -5,7 +5,7 @@ use Rattle.commit_protocol.specs.Backend.{Branch, Request, find, point, put_row}
 use Rattle.commit_protocol.specs.Backend.Request.{Start, Scan, End, Prepare, Commit, Rollback}
 use Rattle.commit_protocol.specs.Network.{Topology}
 use Rattle.commit_protocol.specs.Protocol.{World, Decision, Move, run, start}
-use Rattle.commit_protocol.specs.Protocol.Move.{Draws, Dials, Uses, Sends, Delivers, Reads, Breaks, Hangup_seen, Writes, Recorded, Gives_up, Stops, Front_stops, Reopens}
+use Rattle.commit_protocol.specs.Protocol.Move.{Draws, Dials, Uses, Sends, Delivers, Refuses, Faults, Reads, Breaks, Hangup_seen, Writes, Recorded, Gives_up, Stops, Front_stops, Reopens}
 
 -- Connections 1 and 3 lead to server 0, connection 2 to server 1.
 abbrev pub two_servers : Topology

@@ -3,11 +3,11 @@ use Rattle.std.proofs.Common.{◌≡◌, ℕ, Bool, true, false, cond, ◌+◌, 
 use Rattle.std.proofs.lemmas.Bool.Decides.{nat_tests}
 use Rattle.commit_protocol.specs.Rows.{Table, Footprint}
 use Rattle.commit_protocol.specs.Backend.{Request}
-use Rattle.commit_protocol.specs.Backend.Request.{Start, Scan, Change, End, Prepare, Commit, Rollback}
+use Rattle.commit_protocol.specs.Backend.Request.{Start, Scan, Change, End, Prepare, Commit, Rollback, Recover}
 use Rattle.commit_protocol.specs.Network.{set, Topology, Reply, dialled_now}
-use Rattle.commit_protocol.specs.Protocol.{World, Transaction, Decision, Move, is_fresh, is_live, is_member, may_ask, may_use, may_decide, asks, asking, delivers, reads, writes, recorded, with_phase, with_connection, uses_connection, sees_hangup, done_on, decided_rows, view, happens}
+use Rattle.commit_protocol.specs.Protocol.{World, Transaction, Decision, Move, is_fresh, is_live, is_member, may_ask, may_use, may_decide, asks, asking, delivers, refuses, faults, reads, writes, recorded, with_phase, with_connection, uses_connection, sees_hangup, done_on, decided_rows, view, happens}
 use Rattle.commit_protocol.specs.Protocol.Phase.{Live, Over}
-use Rattle.commit_protocol.specs.Protocol.Move.{Draws, Dials, Uses, Sends, Delivers, Reads, Breaks, Hangup_seen, Writes, Recorded, Gives_up, Stops, Front_stops, Reopens}
+use Rattle.commit_protocol.specs.Protocol.Move.{Draws, Dials, Uses, Sends, Delivers, Refuses, Faults, Reads, Breaks, Hangup_seen, Writes, Recorded, Gives_up, Stops, Front_stops, Reopens}
 use Rattle.commit_protocol.specs.Links.{Placement, Went, Note, Link, Status, Cursor, Mark, Matter, CopyBatch, Front, at_link, plain, is_recovery, reaches_key, is_copied, has_by, has_key, recorded_by, has_recorded, notes_sent, MayDecide, MayCopy, batch_notes, batch_mark, is_free, all_past, is_line, sends_to, booked, reopened, with_link, raised, IsMark, Follows, Next, Run, new_front}
 use Rattle.commit_protocol.specs.Links.Matter.{Statements, Batch}
 use Rattle.commit_protocol.specs.Links.Status.{OK, RECOVERY, NG}
@@ -52,6 +52,8 @@ is_plain (Dials c) = true
 is_plain (Uses c x) = true
 is_plain (Sends c r) = true
 is_plain (Delivers c) = true
+is_plain (Refuses c) = true
+is_plain (Faults c found) = true
 is_plain (Reads c) = true
 is_plain (Breaks c) = true
 is_plain (Hangup_seen c) = true
@@ -73,6 +75,16 @@ same_book f w (Sends c r) h = guarded (SameBook w) (may_ask f w c r) (asks f w c
 same_book f w (Delivers c) h = go (w.connection c).queue
   where
     go : (q : List Request) → SameBook w (delivers f w c q)
+    go [] = (refl, refl)
+    go (r ∷ q) = (refl, refl)
+same_book f w (Refuses c) h = go (w.connection c).queue
+  where
+    go : (q : List Request) → SameBook w (refuses f w c q)
+    go [] = (refl, refl)
+    go (r ∷ q) = (refl, refl)
+same_book f w (Faults c found) h = go (w.connection c).queue
+  where
+    go : (q : List Request) → SameBook w (faults f w c found q)
     go [] = (refl, refl)
     go (r ∷ q) = (refl, refl)
 same_book f w (Reads c) h = go (w.connection c).unread
@@ -109,10 +121,13 @@ free_plain (Sends c (Start x)) h = (refl, refl)
 free_plain (Sends c (Scan fp)) h = cc
 free_plain (Sends c (Change fp rows)) h = cc
 free_plain (Sends c (End x)) h = (refl, refl)
+free_plain (Sends c Recover) h = (refl, refl)
 free_plain (Sends c (Prepare x)) h = cc
 free_plain (Sends c (Commit x)) h = (refl, refl)
 free_plain (Sends c (Rollback x)) h = (refl, refl)
 free_plain (Delivers c) h = (refl, refl)
+free_plain (Refuses c) h = (refl, refl)
+free_plain (Faults c found) h = (refl, refl)
 free_plain (Reads c) h = (refl, refl)
 free_plain (Breaks c) h = (refl, refl)
 free_plain (Hangup_seen c) h = (refl, refl)

@@ -3,11 +3,11 @@ use Rattle.std.proofs.Common.{◌≡◌, ℕ, Bool, true, false, cond, ◌&&◌,
 use Rattle.std.proofs.lemmas.Bool.Decides.{nat_tests}
 use Rattle.std.proofs.lemmas.Bool.{cases_Bool}
 use Rattle.commit_protocol.specs.Backend.{Request, effect}
-use Rattle.commit_protocol.specs.Backend.Request.{Start, Scan, Change, End, Prepare, Commit, Rollback}
+use Rattle.commit_protocol.specs.Backend.Request.{Start, Scan, Change, End, Prepare, Commit, Rollback, Recover}
 use Rattle.commit_protocol.specs.Network.{set, Topology, Reply, dialled_now}
-use Rattle.commit_protocol.specs.Protocol.{World, Transaction, Decision, Move, has_member, is_fresh, is_live, may_ask, may_use, may_decide, asks, delivers, reads, recorded, new_boot, writes, with_phase, with_connection, uses_connection, sees_hangup, happens}
+use Rattle.commit_protocol.specs.Protocol.{World, Transaction, Decision, Move, has_member, is_fresh, is_live, may_ask, may_use, may_decide, asks, delivers, refuses, left_of, faults, reads, recorded, new_boot, writes, with_phase, with_connection, uses_connection, sees_hangup, happens}
 use Rattle.commit_protocol.specs.Protocol.Phase.{Live, Over}
-use Rattle.commit_protocol.specs.Protocol.Move.{Draws, Dials, Uses, Sends, Delivers, Reads, Breaks, Hangup_seen, Writes, Recorded, Gives_up, Stops, Front_stops, Reopens}
+use Rattle.commit_protocol.specs.Protocol.Move.{Draws, Dials, Uses, Sends, Delivers, Refuses, Faults, Reads, Breaks, Hangup_seen, Writes, Recorded, Gives_up, Stops, Front_stops, Reopens}
 use Rattle.commit_protocol.specs.Links.{Placement, Link, Went, went_to, went_in, was_sent, all_sent, protects, one_protects, is_ok, all_past, IsAmong}
 use Rattle.protocol_law.proofs.Traffic.{set_cases, guarded, unless, served_rest}
 
@@ -125,10 +125,13 @@ asks_prepare (Sends c r) = is_prepare r
     is_prepare (Scan fp) = false
     is_prepare (Change fp rows) = false
     is_prepare (End x) = false
+    is_prepare Recover = false
     is_prepare (Prepare x) = true
     is_prepare (Commit x) = false
     is_prepare (Rollback x) = false
 asks_prepare (Delivers c) = false
+asks_prepare (Refuses c) = false
+asks_prepare (Faults c found) = false
 asks_prepare (Reads c) = false
 asks_prepare (Breaks c) = false
 asks_prepare (Hangup_seen c) = false
@@ -158,6 +161,7 @@ same_asked f w (Sends c (Start y)) h = guarded (SameAsked w) (may_ask f w c (Sta
 same_asked f w (Sends c (Scan fp)) h = guarded (SameAsked w) (may_ask f w c (Scan fp)) (asks f w c (Scan fp)) w (λ x s. refl) (λ t x s. refl)
 same_asked f w (Sends c (Change fp rows)) h = guarded (SameAsked w) (may_ask f w c (Change fp rows)) (asks f w c (Change fp rows)) w (λ x s. refl) (λ t x s. refl)
 same_asked f w (Sends c (End y)) h = guarded (SameAsked w) (may_ask f w c (End y)) (asks f w c (End y)) w (λ x s. refl) (λ t x s. refl)
+same_asked f w (Sends c Recover) h = guarded (SameAsked w) (may_ask f w c Recover) (asks f w c Recover) w (λ x s. refl) (λ t x s. refl)
 same_asked f w (Sends c (Prepare y)) h = cc
 same_asked f w (Sends c (Commit y)) h = guarded (SameAsked w) (may_ask f w c (Commit y)) (asks f w c (Commit y)) w (λ x s. refl) (λ t x s. refl)
 same_asked f w (Sends c (Rollback y)) h = guarded (SameAsked w) (may_ask f w c (Rollback y)) (asks f w c (Rollback y)) w (λ x s. refl) (λ t x s. refl)
@@ -166,6 +170,16 @@ same_asked f w (Delivers c) h = go (w.connection c).queue
     go : (q : List Request) → SameAsked w (delivers f w c q)
     go [] = λ x s. refl
     go (r ∷ q) = λ x s. ap (λ (h : ℕ → Option ℕ). h s) (served_rest f w c (effect (w.server (f.home c)) c r) x).2
+same_asked f w (Refuses c) h = go (w.connection c).queue
+  where
+    go : (q : List Request) → SameAsked w (refuses f w c q)
+    go [] = λ x s. refl
+    go (r ∷ q) = λ x s. refl
+same_asked f w (Faults c found) h = go (w.connection c).queue
+  where
+    go : (q : List Request) → SameAsked w (faults f w c found q)
+    go [] = λ x s. refl
+    go (r ∷ q) = λ x s. ap (λ (h : ℕ → Option ℕ). h s) (served_rest f w c (left_of found (effect (w.server (f.home c)) c r)) x).2
 same_asked f w (Reads c) h = go (w.connection c).unread
   where
     go : (q : List Reply) → SameAsked w (reads w c q)
