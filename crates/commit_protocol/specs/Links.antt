@@ -1,7 +1,7 @@
 -- Redundant links over the commit protocol: partitions, statuses, epochs and cursors, what the front notes of a transaction, and
 -- when it may be decided.
 use Rattle.std.specs.Prelude.{◌≡◌, ◌≢◌, ℕ, Bool, true, false, cond, not, ◌&&◌, ◌||◌, ◌+◌, eqb, leb, List, [], ◌∷◌, Option, Some, None, ◌⊎◌}
-use Rattle.commit_protocol.specs.Rows.{Row, Key, Table, Interval, Footprint, Operation, is_in_one, covers}
+use Rattle.commit_protocol.specs.Rows.{Row, Key, Table, Interval, Footprint, Operation, is_within, is_in_one, covers}
 use Rattle.commit_protocol.specs.Rows.Operation.{Scanned, Changed}
 use Rattle.commit_protocol.specs.Backend.{Request}
 use Rattle.commit_protocol.specs.Backend.Request.{Start, Scan, Change, End, Prepare, Commit, Rollback, Recover}
@@ -276,13 +276,24 @@ pub record CopyBatch : Type 0 where
   pub target : Went
   pub keys : Interval
   pub rows : Plain
-  pub puts : List Interval
+  pub puts : List (List Interval)
   pub upto : Cursor
 
+-- Rows are put by one or several requests, or none where there are none.
+abbrev pub is_put : List (List Interval) → ℕ → Bool
+is_put [] k = false
+is_put (keys ∷ more) k = is_in_one keys k || is_put more k
+
+abbrev pub puts_onto : Placement → CopyBatch → List (List Interval) → List Note → List Note
+puts_onto p b [] notes = notes
+puts_onto p b (keys ∷ more) notes = Write (p.of b.target.link) keys b.rows (b.target ∷ []) ∷ puts_onto p b more notes
+
+-- What a batch notes: a read of the source, a clear of the destination, and the puts.
+abbrev pub copy_notes : Placement → CopyBatch → List Note
+copy_notes p b = Write (p.of b.target.link) (b.keys ∷ []) (λ k. None) (b.target ∷ []) ∷ Read (p.of b.source.link) (b.keys ∷ []) (λ t. t) b.rows (b.source ∷ []) ∷ []
+
 abbrev pub batch_notes : Placement → CopyBatch → List Note
-batch_notes p b = Write (p.of b.target.link) b.puts b.rows (b.target ∷ [])
-    ∷ Write (p.of b.target.link) (b.keys ∷ []) (λ k. None) (b.target ∷ [])
-    ∷ Read (p.of b.source.link) (b.keys ∷ []) (λ t. t) b.rows (b.source ∷ []) ∷ []
+batch_notes p b = puts_onto p b b.puts (copy_notes p b)
 
 abbrev pub batch_mark : CopyBatch → Mark
 batch_mark b = record { link = b.target.link; epoch = b.target.epoch; upto = b.upto }
@@ -308,8 +319,8 @@ pub record MayCopy (f : Topology) (p : Placement) (v : Front) (x : ℕ) (ms : Li
   pub target : (is_recovery (v.link b.target.link).status && (eqb b.target.epoch (v.link b.target.link).epoch && has_member f (p.at b.target.link) ms)) ≡ true
   pub begins : (eqb b.keys.from 0 || comes_to v.marks b.target.link b.target.epoch b.keys.from) ≡ true
   pub ends : EndsAt p b b.upto
-  pub put : (k : ℕ) → is_in_one b.puts k ≡ false → is_in_one (b.keys ∷ []) k ≡ true → b.rows k ≡ None
-  pub within : (k : ℕ) → is_in_one b.puts k ≡ true → is_in_one (b.keys ∷ []) k ≡ true
+  pub put : (k : ℕ) → is_put b.puts k ≡ false → is_within b.keys k ≡ true → b.rows k ≡ None
+  pub within : (k : ℕ) → is_put b.puts k ≡ true → is_within b.keys k ≡ true
 
 -- ---- what may happen next
 

@@ -16,7 +16,7 @@ use Rattle.protocol_law.proofs.Logs.{untouched}
 use Rattle.protocol_law.proofs.Effects as known
 use Rattle.protocol_law.proofs.Effects.Did.{Kept, Showed, Begun, Grew, Closed, Readied, Dropped, Installed}
 use Rattle.protocol_law.proofs.Traffic.{IsOrderly, IsAllowed, AreAllowed, Waits, guarded, unless, orderly_happens, orderly_start}
-use Rattle.protocol_law.proofs.Matched.{IsMatched, matched_happens, matched_start}
+use Rattle.protocol_law.proofs.Matched.{IsMatched, fresh_none, matched_happens, matched_start}
 use Rattle.protocol_law.proofs.Serial.{IsSerial, counts, same_held, has_branch, serial_happens, serial_start}
 use Rattle.protocol_law.proofs.Waiting.{waits_happens, waits_start}
 
@@ -236,3 +236,10 @@ told f w i x s undecided ready =
     let asked : (w.transaction x).asked (f.home k.0) ≡ Some k.0 = ap (w.transaction x).asked here ∙ k.2 in
     let there : find x (w.server (f.home k.0)).branches ≡ Some k.1 = ap (λ z. find x (w.server z).branches) here ∙ k.3 in
     (k.0, k.1, k.2, k.3, k.4, i.matched.frozen x k.0 k.1 undecided asked there k.5)
+
+-- who has a branch has drawn its number
+pub drawn : (f : Topology) (w : World) → IsSound f w → (x s : ℕ) (b : Branch) → find x (w.server s).branches ≡ Some b → is_fresh (w.transaction x).phase ≡ false
+drawn f w i x s b h = ⊎_elim
+    (λ (t : is_fresh (w.transaction x).phase ≡ true). absurd (fresh_none f w i.orderly x s b t h))
+    (λ (t : is_fresh (w.transaction x).phase ≡ false). t)
+    (cases_Bool (is_fresh (w.transaction x).phase))

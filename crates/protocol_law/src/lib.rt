@@ -16,7 +16,7 @@ ghost use Rattle.commit_protocol.specs.Backend.{Branch, Request, Call, Stage, ca
 ghost use Rattle.commit_protocol.specs.Backend.Effect.{Drop, Install};
 ghost use Rattle.commit_protocol.specs.Backend.Stage.{Prepared};
 ghost use Rattle.commit_protocol.specs.Network.{Topology};
-ghost use Rattle.commit_protocol.specs.Protocol.{Move, run, start, happens, view, decided_at, decides_member, decided_rows, done_on, is_undecided, First, IsSerialAt};
+ghost use Rattle.commit_protocol.specs.Protocol.{Move, run, start, happens, view, decided_at, decides_member, decided_rows, done_on, is_fresh, is_undecided, First, IsSerialAt};
 ghost use Rattle.protocol_law.specs.Examples.{two_servers, commits_once, waits_for_lock, gets_lock, late_request, late_then_seen, stops_between, settles_commit, settles_rollback, settles_too_early, decides_nothing, gives_up, spans_servers, after_run, row_at, has_log, is_there, branch_of, decided_numbers};
 
 /// At one server no footprints of two live branches conflict, and each key that a branch changes is in one of its exclusive
@@ -28,10 +28,13 @@ pub fn locks_are_apart()
         → touches a.log k ≡ true → owns a.log k ≡ true }
 {}
 
-/// Where a server has done a transaction's PREPARE and the transaction isn't ended, its prepared branch stands there, begun on
-/// the connection that was asked, and did exactly what the front was told on that connection.
+/// The number of each live branch was drawn. Where a server has done a transaction's PREPARE and the transaction isn't ended, its
+/// prepared branch stands there, begun on the connection that was asked, and did exactly what the front was told on that
+/// connection.
 pub fn prepared_is_told()
-    ensures { (f : Topology) (ms : List Move) (x s : ℕ) → let w = run f ms start in
+    ensures drawn { (f : Topology) (ms : List Move) (x s : ℕ) (b : Branch) → let w = run f ms start in
+        find x (w.server s).branches ≡ Some b → is_fresh (w.transaction x).phase ≡ false }
+    ensures told { (f : Topology) (ms : List Move) (x s : ℕ) → let w = run f ms start in
         is_undecided (w.transaction x).phase ≡ true → (w.transaction x).ready s ≡ true
         → (c : ℕ) × (b : Branch) × ((w.transaction x).asked s ≡ Some c) × (find x (w.server s).branches ≡ Some b)
         × (b.stage ≡ Prepared) × (b.log ≡ done_on c (w.transaction x).log) }

@@ -3,16 +3,16 @@
 use Rattle.std.proofs.Common.{◌≡◌, ◌≢◌, ℕ, Bool, true, false, cond, ◌&&◌, ◌||◌, eqb, leb, List, [], ◌∷◌, Option, Some, None, refl, sym, ap, ◌∙◌, subst, arith, ◌⊎◌, inl, inr, ⊎_elim, eqb-true}
 use Rattle.std.proofs.lemmas.Bool.Decides.{nat_tests}
 use Rattle.std.proofs.lemmas.Bool.{cases_Bool, cases_eq}
-use Rattle.commit_protocol.specs.Rows.{Table, is_within, is_in_one, after, AreRight}
+use Rattle.commit_protocol.specs.Rows.{Interval, Table, is_within, is_in_one, after, AreRight}
 use Rattle.commit_protocol.specs.Network.{Topology}
 use Rattle.commit_protocol.specs.Protocol.{Transaction, Decision, has_member, is_member, are_ready, done_on, done_at, decided_rows}
-use Rattle.commit_protocol.specs.Links.{Plain, Placement, Went, Note, Link, Status, Cursor, Mark, CopyBatch, EndsAt, at_link, lies, plain_after, plain, IsPlainRun, IsPlainSerial, is_ok, is_recovery, is_ng, reaches_key, is_below, is_copied, comes_to, has_by, went_to, went_in, notes_sent, AreWritten, protects, are_protected, Follows, batch_notes, batch_mark}
+use Rattle.commit_protocol.specs.Links.{Plain, Placement, Went, Note, Link, Status, Cursor, Mark, CopyBatch, EndsAt, at_link, lies, plain_after, plain, IsPlainRun, IsPlainSerial, is_ok, is_recovery, is_ng, reaches_key, is_below, is_copied, comes_to, has_by, went_to, went_in, notes_sent, AreWritten, protects, are_protected, Follows, is_put, puts_onto, copy_notes, batch_notes, batch_mark}
 use Rattle.commit_protocol.specs.Links.Note.{Read, Write}
 use Rattle.commit_protocol.specs.Links.Status.{OK, RECOVERY, NG}
 use Rattle.commit_protocol.specs.Links.Cursor.{Nothing, Up_to, All}
 use Rattle.protocol_law.proofs.Serial.{member_of, none_at}
 use Rattle.replica_law.proofs.Present.{ArePresent, present_went, present_protects}
-use Rattle.replica_law.proofs.Notes.{AllWent, NoneOf, Before, same_plain, of_went, none_of_after, follows_after, follows_none, follows_tail, follows_read}
+use Rattle.replica_law.proofs.Notes.{AllWent, NoneWent, NoneOf, Before, same_plain, of_went, none_of_after, follows_after, follows_none, follows_tail, follows_read}
 
 -- ---- what holds of links, marks, history and book
 
@@ -161,20 +161,50 @@ reached p b ms k begins ends e r = ⊎_elim
     (λ (t : leb b.keys.from k ≡ false). inr (grind arith, comes_copied ms b.target.link b.target.epoch b.keys.from k (grind (arith, nat_tests)) t))
     (cases_Bool (leb b.keys.from k))
 
--- a batch's notes make its keys its rows
-batch_after : (p : Placement) (b : CopyBatch) (u : Plain) (k : ℕ) → ((n : ℕ) → is_in_one b.puts n ≡ false → is_in_one (b.keys ∷ []) n ≡ true → b.rows n ≡ None) → ((n : ℕ) → is_in_one b.puts n ≡ true → is_in_one (b.keys ∷ []) n ≡ true)
-    → p.partition k ≡ p.of b.target.link → plain_after p u (batch_notes p b) k ≡ cond (is_within b.keys k) (b.rows k) (u k)
-batch_after p b u k put within e = go (is_in_one b.puts k) (is_within b.keys k) refl refl
+-- puts make their keys the batch's rows
+puts_after : (p : Placement) (b : CopyBatch) (u : Plain) (puts : List (List Interval)) (notes : List Note) (k : ℕ) → p.partition k ≡ p.of b.target.link → plain_after p u (puts_onto p b puts notes) k ≡ cond (is_put puts k) (b.rows k) (plain_after p u notes k)
+puts_after p b u [] notes k e = refl
+puts_after p b u (keys ∷ more) notes k e = go (is_in_one keys k) refl (puts_after p b u more notes k e)
   where
     placed : eqb (p.partition k) (p.of b.target.link) ≡ true
     placed = grind (arith, nat_tests)
 
-    go : (v w : Bool) → is_in_one b.puts k ≡ v → is_within b.keys k ≡ w
-        → cond (eqb (p.partition k) (p.of b.target.link) && is_in_one b.puts k) (b.rows k) (cond (eqb (p.partition k) (p.of b.target.link) && is_in_one (b.keys ∷ []) k) None (u k)) ≡ cond (is_within b.keys k) (b.rows k) (u k)
+    go : (v : Bool) → is_in_one keys k ≡ v → plain_after p u (puts_onto p b more notes) k ≡ cond (is_put more k) (b.rows k) (plain_after p u notes k)
+        → cond (eqb (p.partition k) (p.of b.target.link) && is_in_one keys k) (b.rows k) (plain_after p u (puts_onto p b more notes) k) ≡ cond (is_in_one keys k || is_put more k) (b.rows k) (plain_after p u notes k)
+    go true m ih = grind arith
+    go false m ih = grind (arith, ih)
+
+-- a batch's notes make its keys its rows
+batch_after : (p : Placement) (b : CopyBatch) (u : Plain) (k : ℕ) → ((n : ℕ) → is_put b.puts n ≡ false → is_within b.keys n ≡ true → b.rows n ≡ None) → ((n : ℕ) → is_put b.puts n ≡ true → is_within b.keys n ≡ true)
+    → p.partition k ≡ p.of b.target.link → plain_after p u (batch_notes p b) k ≡ cond (is_within b.keys k) (b.rows k) (u k)
+batch_after p b u k put within e = puts_after p b u b.puts (copy_notes p b) k e ∙ go (is_put b.puts k) (is_within b.keys k) refl refl
+  where
+    placed : eqb (p.partition k) (p.of b.target.link) ≡ true
+    placed = grind (arith, nat_tests)
+
+    go : (v w : Bool) → is_put b.puts k ≡ v → is_within b.keys k ≡ w
+        → cond (is_put b.puts k) (b.rows k) (cond (eqb (p.partition k) (p.of b.target.link) && is_in_one (b.keys ∷ []) k) None (u k)) ≡ cond (is_within b.keys k) (b.rows k) (u k)
     go true true m n = grind arith
-    go true false m n = let bad : is_in_one (b.keys ∷ []) k ≡ true = within k m in let no : is_in_one (b.keys ∷ []) k ≡ false = grind arith in cc (bad, no)
-    go false true m n = let gap : b.rows k ≡ None = put k m (grind arith) in grind (arith, gap)
+    go true false m n = let bad : is_within b.keys k ≡ true = within k m in cc (bad, n)
+    go false true m n = let gap : b.rows k ≡ None = put k m n in grind (arith, gap)
     go false false m n = grind arith
+
+-- puts went to the destination alone
+puts_went : (p : Placement) (b : CopyBatch) (c : ℕ) (puts : List (List Interval)) (notes : List Note) → went_to b.target.link c (b.target ∷ []) ≡ true → AllWent p b.target.link c notes → AllWent p b.target.link c (puts_onto p b puts notes)
+puts_went p b c [] notes t w = w
+puts_went p b c (keys ∷ more) notes t w = ((λ q. t), (λ q. refl), puts_went p b c more notes t w)
+
+puts_none : (p : Placement) (b : CopyBatch) (l c : ℕ) (puts : List (List Interval)) (notes : List Note) → went_to l c (b.target ∷ []) ≡ false → NoneWent l c notes → NoneWent l c (puts_onto p b puts notes)
+puts_none p b l c [] notes t w = w
+puts_none p b l c (keys ∷ more) notes t w = (t, puts_none p b l c more notes t w)
+
+puts_sent : (p : Placement) (b : CopyBatch) (hs : List Went) (puts : List (List Interval)) (notes : List Note) → notes_sent (puts_onto p b puts notes) hs ≡ true → notes_sent notes hs ≡ true
+puts_sent p b hs [] notes s = s
+puts_sent p b hs (keys ∷ more) notes s = puts_sent p b hs more notes (grind (arith, s))
+
+before_puts : (p : Placement) (b : CopyBatch) (l c : ℕ) (t : Table) (puts : List (List Interval)) (notes : List Note) → Before p l c t (puts_onto p b puts notes) → Before p l c t notes
+before_puts p b l c t [] notes i = i
+before_puts p b l c t (keys ∷ more) notes i = before_puts p b l c t more notes (follows_tail p l c t _ _ i.ops i.follows i.right)
 
 -- what is known of a batch as its record is written
 pub record CopyStands (f : Topology) (p : Placement) (link : ℕ → Link) (marks : List Mark) (d : Decision) (b : CopyBatch) : Type 0 where
@@ -183,8 +213,8 @@ pub record CopyStands (f : Topology) (p : Placement) (link : ℕ → Link) (mark
   pub target : (is_recovery (link b.target.link).status && (eqb b.target.epoch (link b.target.link).epoch && has_member f (p.at b.target.link) d.members)) ≡ true
   pub begins : (eqb b.keys.from 0 || comes_to marks b.target.link b.target.epoch b.keys.from) ≡ true
   pub ends : EndsAt p b b.upto
-  pub put : (k : ℕ) → is_in_one b.puts k ≡ false → is_in_one (b.keys ∷ []) k ≡ true → b.rows k ≡ None
-  pub within : (k : ℕ) → is_in_one b.puts k ≡ true → is_in_one (b.keys ∷ []) k ≡ true
+  pub put : (k : ℕ) → is_put b.puts k ≡ false → is_within b.keys k ≡ true → b.rows k ≡ None
+  pub within : (k : ℕ) → is_put b.puts k ≡ true → is_within b.keys k ≡ true
 
 pub batch_holds : (f : Topology) (p : Placement) (link : ℕ → Link) (line : ℕ → Option ℕ) (t : Transaction) (hs : List Went) (history : List Decision) (d : Decision) (b : CopyBatch) (marks : List Mark) (book : List (List Note)) → Standing f p link line t hs history d (batch_notes p b)
     → CopyStands f p link marks d b → Holds f p link marks history book → Holds f p link (batch_mark b ∷ marks) (d ∷ history) ([] ∷ book)
@@ -202,16 +232,19 @@ batch_holds f p link line t hs history d b marks book i c h = record { good = go
     at_source : (q : ℕ) × (t.asked (p.at b.source.link) ≡ Some q) × (done_at f (p.at b.source.link) d.members d.log ≡ done_on q d.log) × Follows p b.source.link q (batch_notes p b) (done_on q d.log) × AreRight (table b.source.link) (done_on q d.log)
     at_source = there f p link line t hs history d (batch_notes p b) i b.source.link (grind (arith, c.source))
 
+    noted : notes_sent (copy_notes p b) hs ≡ true
+    noted = puts_sent p b hs b.puts (copy_notes p b) i.sent
+
     to_target : went_to b.target.link at_target.0 (b.target ∷ []) ≡ true
-    to_target = present_went p link line t.asked b.target.link at_target.0 (b.target ∷ []) hs went_there (grind (arith, i.sent)) at_target.1 i.present
+    to_target = present_went p link line t.asked b.target.link at_target.0 (b.target ∷ []) hs went_there (grind (arith, noted)) at_target.1 i.present
 
     to_source : went_to b.source.link at_source.0 (b.source ∷ []) ≡ true
-    to_source = present_went p link line t.asked b.source.link at_source.0 (b.source ∷ []) hs (grind (arith, nat_tests, c.source)) (grind (arith, i.sent)) at_source.1 i.present
+    to_source = present_went p link line t.asked b.source.link at_source.0 (b.source ∷ []) hs (grind (arith, nat_tests, c.source)) (grind (arith, noted)) at_source.1 i.present
 
     -- the source's rows are the plain tables'
     rows_are : (k : ℕ) → is_within b.keys k ≡ true → p.partition k ≡ p.of b.source.link → b.rows k ≡ plain p book k
     rows_are k w e =
-        let one = follows_tail p b.source.link at_source.0 (table b.source.link) _ _ (done_on at_source.0 d.log) at_source.3 at_source.4 in
+        let one = before_puts p b b.source.link at_source.0 (table b.source.link) b.puts (copy_notes p b) (record { ops = done_on at_source.0 d.log; follows = at_source.3; right = at_source.4 }) in
         let two = follows_tail p b.source.link at_source.0 (table b.source.link) _ _ one.ops one.follows one.right in
         let read = follows_read p b.source.link at_source.0 (table b.source.link) (p.of b.source.link) (b.keys ∷ []) (λ z. z) b.rows (b.source ∷ []) [] two.ops two.follows two.right to_source in
         let inside : lies p (p.of b.source.link) (b.keys ∷ []) k ≡ true = grind (arith, nat_tests) in
@@ -225,7 +258,7 @@ batch_holds f p link line t hs history d b marks book i c h = record { good = go
     target_after k e =
         ap (λ z. after (table b.target.link) z (at_link b.target.link k)) at_target.2
         ∙ follows_after p b.target.link at_target.0 (table b.target.link) (λ n. table b.target.link (at_link b.target.link n)) (batch_notes p b) (done_on at_target.0 d.log) k at_target.3
-        ((λ q. to_target), (λ q. refl), ((λ q. to_target), (λ q. refl), tt)) e refl
+        (puts_went p b at_target.0 b.puts (copy_notes p b) to_target ((λ q. to_target), (λ q. refl), tt)) e refl
         ∙ batch_after p b (λ n. table b.target.link (at_link b.target.link n)) k c.put c.within e
 
     -- what is kept there was copied before
@@ -261,7 +294,7 @@ batch_holds f p link line t hs history d b marks book i c h = record { good = go
         (λ (m : has_member f (p.at l) d.members ≡ true).
         let q = there f p link line t hs history d (batch_notes p b) i l m in
         let away : went_to l q.0 (b.target ∷ []) ≡ false = grind (arith, nat_tests) in
-        ap (λ z. after (table l) z (at_link l k)) q.2 ∙ follows_none p l q.0 (table l) (batch_notes p b) (done_on q.0 d.log) k q.3 (away, (away, tt)))
+        ap (λ z. after (table l) z (at_link l k)) q.2 ∙ follows_none p l q.0 (table l) (batch_notes p b) (done_on q.0 d.log) k q.3 (puts_none p b l q.0 b.puts (copy_notes p b) away (away, tt)))
         (λ (m : has_member f (p.at l) d.members ≡ false). ap (λ z. after (table l) z (at_link l k)) (none_at f d.members (p.at l) d.log m))
         (cases_Bool (has_member f (p.at l) d.members))
 
