@@ -2,7 +2,7 @@
 use Rattle.std.specs.Prelude.{ℕ, Bool, true, false, cond, eqb, List, [], ◌∷◌, ◌++◌, map, length, Option, Some, None}
 use Rattle.commit_protocol.specs.Rows.{Key, Row, Footprint}
 use Rattle.commit_protocol.specs.Backend.{Branch, Request, find, point, put_row}
-use Rattle.commit_protocol.specs.Backend.Request.{Start, Scan, End, Prepare, Commit, Rollback}
+use Rattle.commit_protocol.specs.Backend.Request.{Start, Scan, End, Prepare, Commit, Rollback, Recover}
 use Rattle.commit_protocol.specs.Network.{Topology}
 use Rattle.commit_protocol.specs.Protocol.{World, Decision, Move, run, start}
 use Rattle.commit_protocol.specs.Protocol.Move.{Draws, Dials, Uses, Sends, Delivers, Refuses, Faults, Reads, Breaks, Hangup_seen, Writes, Recorded, Gives_up, Stops, Front_stops, Reopens}
@@ -83,6 +83,18 @@ gives_up = prepared_once ++ Gives_up 7 ∷ asks_and_reads 1 (Rollback 7)
 -- Two servers, one transaction: each is a member.
 abbrev pub spans_servers : List Move
 spans_servers = prepared_once ++ Dials 2 ∷ Uses 2 7 ∷ asks_and_reads 2 (Start 7) ++ writes_key 2 4 6 ++ prepares 7 2 ++ Writes 7 (1 ∷ 2 ∷ []) ∷ Recorded ∷ Delivers 1 ∷ asks_and_reads 2 (Commit 7)
+
+-- A server refuses a scan for want of memory.
+abbrev pub refuses_scan : List Move
+refuses_scan = begins_on 7 1 ++ Sends 1 (Scan (one_key 3)) ∷ Refuses 1 ∷ []
+
+-- Its disk faults as it prepares: the step is kept, or lost with the branch.
+abbrev pub faults_preparing : Bool → List Move
+faults_preparing found = begins_on 7 1 ++ writes_key 1 3 5 ++ asks_and_reads 1 (End 7) ++ Sends 1 (Prepare 7) ∷ Faults 1 found ∷ []
+
+-- Another connection asks what is prepared.
+abbrev pub recovers : List Move
+recovers = prepared_once ++ Dials 3 ∷ Sends 3 Recover ∷ Delivers 3 ∷ []
 
 -- What the laws' examples look at.
 abbrev pub after_run : List Move → World

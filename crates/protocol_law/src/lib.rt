@@ -16,8 +16,9 @@ ghost use Rattle.commit_protocol.specs.Backend.{Branch, Request, Call, Stage, ca
 ghost use Rattle.commit_protocol.specs.Backend.Effect.{Drop, Install};
 ghost use Rattle.commit_protocol.specs.Backend.Stage.{Prepared};
 ghost use Rattle.commit_protocol.specs.Network.{Topology};
+ghost use Rattle.commit_protocol.specs.Network.Reply.{Listed};
 ghost use Rattle.commit_protocol.specs.Protocol.{Move, run, start, happens, view, decided_at, decides_member, decided_rows, done_on, is_fresh, is_undecided, First, IsSerialAt};
-ghost use Rattle.protocol_law.specs.Examples.{two_servers, commits_once, waits_for_lock, gets_lock, late_request, late_then_seen, stops_between, settles_commit, settles_rollback, settles_too_early, decides_nothing, gives_up, spans_servers, after_run, row_at, has_log, is_there, branch_of, decided_numbers};
+ghost use Rattle.protocol_law.specs.Examples.{two_servers, commits_once, waits_for_lock, gets_lock, late_request, late_then_seen, stops_between, settles_commit, settles_rollback, settles_too_early, decides_nothing, gives_up, spans_servers, refuses_scan, faults_preparing, recovers, after_run, row_at, has_log, is_there, branch_of, decided_numbers};
 
 /// At one server no footprints of two live branches conflict, and each key that a branch changes is in one of its exclusive
 /// footprints.
@@ -80,6 +81,15 @@ pub fn one_waits()
 pub fn one_is_late()
     ensures done { has_log (branch_of late_request 7) 1 ≡ true }
     ensures gone { is_there (branch_of late_then_seen 7) ≡ false }
+{}
+
+/// A server refuses a request for a cause of its own; a disk fault keeps a PREPARE or loses it with its branch; RECOVER lists what
+/// is prepared.
+pub fn one_faults()
+    ensures refused { has_log (branch_of refuses_scan 7) 0 ≡ true }
+    ensures kept { is_there (branch_of (faults_preparing true) 7) ≡ true }
+    ensures lost { is_there (branch_of (faults_preparing false) 7) ≡ false }
+    ensures listed { ((after_run recovers).connection 3).unread ≡ Listed (7 ∷ []) ∷ [] }
 {}
 
 /// A stop of a server keeps the prepared branch and drops the other.

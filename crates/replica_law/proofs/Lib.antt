@@ -3,3 +3,4 @@ pub mod Notes
 pub mod Agree
 pub mod Moves
 pub mod Executed
+pub mod Computed

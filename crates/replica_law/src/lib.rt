@@ -10,11 +10,13 @@
 //! What it promises: the laws, without any premise beyond the guards of `commit_protocol`'s moves.
 #![tactic(auto)]
 
-ghost use Rattle.std.specs.Prelude.{◌≡◌, ℕ, List, Option, Some, true, map};
+ghost use Rattle.std.specs.Prelude.{◌≡◌, ℕ, Bool, List, [], ◌∷◌, Option, Some, None, true, false, map};
 ghost use Rattle.commit_protocol.specs.Network.{Topology};
 ghost use Rattle.commit_protocol.specs.Protocol.{view};
 ghost use Rattle.commit_protocol.specs.Links.{Placement, Status, Front, Went, Run, new_front, at_link, has_key, has_recorded, plain, IsPlainSerial, IsAmong};
+ghost use Rattle.commit_protocol.specs.Links.Status.{OK};
 ghost use Rattle.commit_protocol.specs.Statements.{Entry, notes_of, AllAnswered, AreSerial, tables_of};
+ghost use Rattle.replica_law.specs.Examples.{wires, places, configured, first_notes, front_whole, front_reopened, two_decided};
 
 /// The decided transactions, in the order of their decisions, are a run of the plain tables, each of whose reads found what
 /// these gave then; and what counts of each link is the plain tables' rows of its partition: each key of an OK link, and those
@@ -43,4 +45,22 @@ pub fn statements_are_serial()
 pub fn epochs_name_connections()
     ensures { (f : Topology) (p : Placement) (status : ℕ → Status) (v : Front) (x c : ℕ) (g : Went) → Run f p (new_front status) v
         → IsAmong g (v.sent x) → g.epoch ≡ (v.link g.link).epoch → (v.core.transaction x).asked (p.at g.link) ≡ Some c → g.connection ≡ c }
+{}
+
+/// A run of each kind of move of the front, computed: a write to two links; one falls, rises and is copied to; its cursor is
+/// recorded, and it is OK and has the row. What was decided is a statement and a copy's batch.
+pub fn one_is_copied()
+    ensures run { Run wires places (new_front configured) front_whole }
+    ensures status { (front_whole.link 1).status ≡ OK }
+    ensures row { view wires front_whole.core 1 (at_link 1 3) ≡ Some 5 }
+    ensures table { plain places front_whole.book 3 ≡ Some 5 }
+    ensures entries { front_whole.book ≡ map notes_of two_decided }
+    ensures answered { AllAnswered two_decided }
+{}
+
+/// A record in progress is lost or found as the log is opened again.
+pub fn one_is_reopened()
+    ensures run { (found : Bool) → Run wires places (new_front configured) (front_reopened found) }
+    ensures found { (front_reopened true).book ≡ first_notes ∷ [] }
+    ensures lost { (front_reopened false).book ≡ [] }
 {}

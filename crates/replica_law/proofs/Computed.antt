@@ -1,0 +1,133 @@
+-- Computed runs are runs, and the example is one.
+use Rattle.std.proofs.Common.{◌≡◌, ℕ, Bool, true, false, cond, ◌||◌, eqb, List, [], ◌∷◌, Option, Some, None, refl, sym, ap, subst, arith, ◌⊎◌, inl, ⊎_elim, eqb-true}
+use Rattle.std.proofs.lemmas.Bool.Decides.{nat_tests}
+use Rattle.commit_protocol.specs.Rows.{is_within, is_in_one}
+use Rattle.commit_protocol.specs.Network.{Topology}
+use Rattle.commit_protocol.specs.Backend.Request.{Commit}
+use Rattle.commit_protocol.specs.Protocol.{is_member, has_member, done_on}
+use Rattle.commit_protocol.specs.Links.{Placement, Front, Status, is_ng, went_in, AreWritten, Follows, is_put, MayDecide, MayCopy, Next, Run, new_front, batch_notes}
+use Rattle.commit_protocol.specs.Links.Follows.{Ends, Passes, Reads_here, Writes_here}
+use Rattle.commit_protocol.specs.Links.Next.{Goes, Opens, Scans, Changes, Prepares, Decides, Copies, Is_recorded, Is_reopened, Falls, Rises, Moves_cursor, Completes}
+use Rattle.commit_protocol.specs.Links.Run.{Stays, Steps}
+use Rattle.commit_protocol.specs.Links.Cursor.{All}
+use Rattle.commit_protocol.specs.Links.Status.{OK, NG}
+use Rattle.protocol_law.proofs.Traffic.{is_none_from}
+use Rattle.replica_law.specs.Actions.{Action, may, acted, may_all, acted_all}
+use Rattle.replica_law.specs.Actions.Action.{Core, Open, Scan_on, Change_on, Prepare_on, Record_done, Reopen, Fall, Rise}
+use Rattle.replica_law.specs.Examples.{wires, places, configured, one_key, all_keys, writes_both, front_ready, went_first, first_notes, front_writing, copies_over, front_copied, rows_copied, done_at_source, done_at_target, one_batch, front_copying, front_booked, front_whole, front_reopened, asks_both}
+
+-- ---- computed moves are moves
+
+next_acted : (f : Topology) (p : Placement) (v : Front) (a : Action) → may f p v a ≡ true → Next f p v (acted f v a)
+next_acted f p v (Core m) h = Goes m h
+next_acted f p v (Open c x) h = Opens c x (grind arith) (grind arith)
+next_acted f p v (Scan_on c fp) h = Scans c fp (grind arith) (grind arith) (eqb-true _ _ (grind arith))
+next_acted f p v (Change_on c fp rows) h = Changes c fp rows (grind arith) (grind arith) (eqb-true _ _ (grind arith))
+next_acted f p v (Prepare_on c x) h = Prepares c x (grind arith) (grind arith)
+next_acted f p v Record_done h = Is_recorded
+next_acted f p v (Reopen found) h = Is_reopened found
+next_acted f p v (Fall l) h = Falls l (is_none_from v.writing (grind arith)) (grind arith)
+next_acted f p v (Rise l) h = Rises l (is_none_from v.writing (grind arith)) (grind arith)
+
+pub run_acted : (f : Topology) (p : Placement) (u v : Front) (more : List Action) → may_all f p v more ≡ true → Run f p u v → Run f p u (acted_all f v more)
+run_acted f p u v [] h r = r
+run_acted f p u v (a ∷ more) h r = run_acted f p u (acted f v a) more (grind arith) (Steps r (next_acted f p v a (grind arith)))
+
+-- ---- the example
+
+one_or_two : (c : ℕ) → is_member c (1 ∷ 2 ∷ []) ≡ true → (c ≡ 1) ⊎ (c ≡ 2)
+one_or_two c h = grind (arith, nat_tests)
+
+-- links of partition 0 that aren't NG are 0 and 1
+zero_or_one : (l : ℕ) (s t : Status) → is_ng (cond (eqb l 0) s (cond (eqb l 1) t NG)) ≡ false → (l ≡ 0) ⊎ (l ≡ 1)
+zero_or_one l s t h = grind (arith, nat_tests)
+
+pub ready_run : Run wires places (new_front configured) front_ready
+ready_run = run_acted wires places (new_front configured) (new_front configured) writes_both refl Stays
+
+-- what holds of connection 1 at link 0 and of connection 2 at link 1 holds of each member at its link
+both_told : (P : ℕ → ℕ → Type 0) → P 0 1 → P 1 2 → (l c : ℕ) → is_member c (1 ∷ 2 ∷ []) ≡ true → wires.home c ≡ l → P l c
+both_told P zero_one one_two l c m h = ⊎_elim
+    (λ (e : c ≡ 1). subst (λ d. wires.home d ≡ l → P l d) (sym e) (λ (q : 0 ≡ l). subst (λ n. P n 1) q zero_one) h)
+    (λ (e : c ≡ 2). subst (λ d. wires.home d ≡ l → P l d) (sym e) (λ (q : 1 ≡ l). subst (λ n. P n 2) q one_two) h)
+    (one_or_two c m)
+
+first_told : (l c : ℕ) → is_member c (1 ∷ 2 ∷ []) ≡ true → wires.home c ≡ l → Follows places l c first_notes (done_on c (front_ready.core.transaction 7).log)
+first_told = both_told (λ l c. Follows places l c first_notes (done_on c (front_ready.core.transaction 7).log))
+    (Writes_here refl (λ k. (refl, λ h. refl)) (Reads_here ((λ k h. h), refl) Ends))
+    (Writes_here refl (λ k. (refl, λ h. refl)) (Reads_here ((λ k h. h), refl) Ends))
+
+first_written : AreWritten wires places front_ready.link (1 ∷ 2 ∷ []) first_notes
+first_written = (
+  refl,
+  (λ l e n. ⊎_elim
+      (λ (q : l ≡ 0). subst (λ m. (went_in m (front_ready.link m).epoch went_first ≡ true) × (has_member wires (places.at m) (1 ∷ 2 ∷ []) ≡ true)) (sym q) (refl, refl))
+      (λ (q : l ≡ 1). subst (λ m. (went_in m (front_ready.link m).epoch went_first ≡ true) × (has_member wires (places.at m) (1 ∷ 2 ∷ []) ≡ true)) (sym q) (refl, refl))
+      (zero_or_one l OK OK n)),
+  tt,
+)
+
+first_decides : MayDecide wires places front_ready 7 (1 ∷ 2 ∷ []) first_notes
+first_decides = record { ready = refl; noted = record { sent = refl; told = first_told }; writes = first_written; reads = refl }
+
+copied_run : Run wires places (new_front configured) front_copied
+copied_run = run_acted wires places (new_front configured) front_writing copies_over refl (Steps ready_run (Decides 7 (1 ∷ 2 ∷ []) first_notes first_decides))
+
+at_three : (k : ℕ) → is_in_one one_key k ≡ true → Some 5 ≡ rows_copied k
+at_three k h = let e : k ≡ 3 = grind (arith, nat_tests, h) in subst (λ n. Some 5 ≡ rows_copied n) (sym e) refl
+
+source_told : Follows places 0 1 (batch_notes places one_batch) done_at_source
+source_told = Passes refl (Passes refl (Reads_here ((λ k h. h), refl) Ends))
+
+target_told : Follows places 1 2 (batch_notes places one_batch) done_at_target
+target_told = Writes_here refl (λ k. (refl, λ h. at_three k h)) (Writes_here refl (λ k. (refl, λ h. refl)) (Passes refl Ends))
+
+at_source : done_at_source ≡ done_on 1 (front_copied.core.transaction 8).log
+at_source = refl
+
+at_target : done_at_target ≡ done_on 2 (front_copied.core.transaction 8).log
+at_target = refl
+
+batch_told : (l c : ℕ) → is_member c (1 ∷ 2 ∷ []) ≡ true → wires.home c ≡ l → Follows places l c (batch_notes places one_batch) (done_on c (front_copied.core.transaction 8).log)
+batch_told = both_told (λ l c. Follows places l c (batch_notes places one_batch) (done_on c (front_copied.core.transaction 8).log))
+    (subst (λ ops. Follows places 0 1 (batch_notes places one_batch) ops) at_source source_told)
+    (subst (λ ops. Follows places 1 2 (batch_notes places one_batch) ops) at_target target_told)
+
+-- where no row is put, there is none
+not_three : (b : Bool) (k : ℕ) → is_in_one one_key k ≡ b → b ≡ false → cond {A = Option ℕ} (is_in_one one_key k) (Some 5) None ≡ None
+not_three true k e h = cc
+not_three false k e h = ap (λ v. cond {A = Option ℕ} v (Some 5) None) e
+
+cond_none : (a b : Bool) (o : Option ℕ) → o ≡ None → cond a (cond b o None) None ≡ None
+cond_none true true o h = h
+cond_none true false o h = refl
+cond_none false b o h = refl
+
+not_put : (b : Bool) → (b || false) ≡ false → b ≡ false
+not_put true h = h
+not_put false h = refl
+
+none_else : (k : ℕ) → is_put (one_key ∷ []) k ≡ false → is_within all_keys k ≡ true → rows_copied k ≡ None
+none_else k h w = cond_none _ _ _ (not_three _ k refl (not_put (is_in_one one_key k) h))
+
+one_copies : MayCopy wires places front_copied 8 (1 ∷ 2 ∷ []) one_batch
+one_copies = record {
+  ready = refl;
+  noted = record { sent = refl; told = batch_told };
+  same = refl;
+  source = refl;
+  target = refl;
+  begins = refl;
+  ends = λ k h. grind (arith, nat_tests, h);
+  put = none_else;
+  within = λ k h. grind (arith, nat_tests, h);
+}
+
+pub booked_run : Run wires places (new_front configured) front_booked
+booked_run = run_acted wires places (new_front configured) front_copying (Record_done ∷ asks_both (Commit 8)) refl (Steps copied_run (Copies 8 (1 ∷ 2 ∷ []) one_batch one_copies))
+
+pub whole_run : Run wires places (new_front configured) front_whole
+whole_run = Steps (Steps booked_run (Moves_cursor 1 All refl refl (inl refl))) (Completes 1 refl refl (inl refl))
+
+pub reopened_run : (found : Bool) → Run wires places (new_front configured) (front_reopened found)
+reopened_run found = run_acted wires places (new_front configured) front_writing (Reopen found ∷ []) refl (Steps ready_run (Decides 7 (1 ∷ 2 ∷ []) first_notes first_decides))
