@@ -1,6 +1,7 @@
 pub mod Rows
 pub mod Backend
 pub mod Network
+pub mod Store
 pub mod Protocol
 pub mod Links
 pub mod Statements

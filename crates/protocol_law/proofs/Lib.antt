@@ -7,3 +7,4 @@ pub mod Matched
 pub mod Serial
 pub mod Waiting
 pub mod Runs
+pub mod Stores

@@ -12,10 +12,11 @@
 
 ghost use Rattle.std.specs.Prelude.{◌≡◌, ◌≢◌, ℕ, List, [], ◌∷◌, Option, Some, None, true, false};
 ghost use Rattle.commit_protocol.specs.Rows.{Key, AreApart, touches, owns, holds};
-ghost use Rattle.commit_protocol.specs.Backend.{Branch, Request, Call, Stage, calls, new_server, find, effect};
+ghost use Rattle.commit_protocol.specs.Backend.{Branch, Request, Call, Stage, calls, new_server, find, effect, served, hung_up, stopped};
 ghost use Rattle.commit_protocol.specs.Backend.Effect.{Drop, Install};
 ghost use Rattle.commit_protocol.specs.Backend.Stage.{Prepared};
-ghost use Rattle.commit_protocol.specs.Network.{Topology};
+ghost use Rattle.commit_protocol.specs.Network.{Topology, reply};
+ghost use Rattle.commit_protocol.specs.Store.{stored, tells, store_hung_up, store_stopped, store_of};
 ghost use Rattle.commit_protocol.specs.Network.Reply.{Listed};
 ghost use Rattle.commit_protocol.specs.Protocol.{Move, run, start, happens, view, decided_at, decides_member, decided_rows, done_on, is_fresh, is_undecided, First, IsSerialAt};
 ghost use Rattle.protocol_law.specs.Examples.{two_servers, commits_once, waits_for_lock, gets_lock, late_request, late_then_seen, stops_between, settles_commit, settles_rollback, settles_too_early, decides_nothing, gives_up, spans_servers, refuses_scan, faults_preparing, recovers, after_run, row_at, has_log, is_there, branch_of, decided_numbers};
@@ -48,6 +49,15 @@ pub fn decisions_stand()
         First r (w.connection c).queue → effect (w.server (f.home c)) c r ≡ Drop b → decided_at f w.history b.xid (f.home c) ≡ false }
     ensures commit { (f : Topology) (ms : List Move) (c : ℕ) (r : Request) (b : Branch) → let w = run f ms start in
         First r (w.connection c).queue → effect (w.server (f.home c)) c r ≡ Install b → decided_at f w.history b.xid (f.home c) ≡ true }
+{}
+
+/// The store that code keeps, of each branch its changes and footprints in order, goes with the server: after every list of calls a
+/// request, the end of a connection and a stop leave the store of what they leave of the server, and it tells what that answers.
+pub fn stores_keep_servers()
+    ensures left { (es : List Call) (c : ℕ) (r : Request) → let v = calls es new_server in stored (store_of v) c r ≡ store_of (served v c r) }
+    ensures told { (es : List Call) (c : ℕ) (r : Request) → let v = calls es new_server in tells (store_of v) c r ≡ reply (effect v c r) }
+    ensures hangup { (es : List Call) (c : ℕ) → let v = calls es new_server in store_hung_up (store_of v) c ≡ store_of (hung_up v c) }
+    ensures stop { (es : List Call) → let v = calls es new_server in store_stopped (store_of v) ≡ store_of (stopped v) }
 {}
 
 /// Where a live branch holds a key, what counts of its server there changes by the decision of its own transaction alone.
