@@ -210,23 +210,41 @@ abbrev pub IsChangeOf : ℕ → List Interval → Plain → Operation → Type 0
 IsChangeOf l keys rows (Scanned f seen) = ⊥
 IsChangeOf l keys rows (Changed f new) = (k : ℕ) → (covers f (at_link l k) ≡ is_in_one keys k) × (is_in_one keys k ≡ true → new (at_link l k) ≡ rows k)
 
--- What was done on a connection, seen at a link, is what the notes say went there: exactly these changes of the link's table, and
--- among the scans these. Both lists have the newest first.
+-- The changes that were made of a link's table on a connection are the writes that the notes say went there, in order. Both lists have
+-- the newest first.
 pub data Follows (p : Placement) (l c : ℕ) : List Note → List Operation → Type 0 where
   -- nothing was done
   Ends : Follows p l c [] []
-  -- a note of something that didn't go here
-  Passes : {n : Note} {ns : List Note} {ops : List Operation} → went_to l c (links_of n) ≡ false → Follows p l c ns ops → Follows p l c (n ∷ ns) ops
-  -- a read that was made here
-  Reads_here : {q : ℕ} {keys : List Interval} {look : Plain → Plain} {found : Plain} {links : List Went} {ns : List Note} {f : Footprint} {rows : Table} {ops : List Operation}
-      → IsScanOf p l q keys look found (Scanned f rows) → Follows p l c ns ops → Follows p l c (Read q keys look found links ∷ ns) (Scanned f rows ∷ ops)
+  -- a read changes nothing
+  Reads_pass : {q : ℕ} {keys : List Interval} {look : Plain → Plain} {found : Plain} {links : List Went} {ns : List Note} {ops : List Operation}
+    → Follows p l c ns ops → Follows p l c (Read q keys look found links ∷ ns) ops
+  -- a write that didn't go here
+  Writes_pass : {q : ℕ} {keys : List Interval} {rows : Plain} {links : List Went} {ns : List Note} {ops : List Operation}
+    → went_to l c links ≡ false → Follows p l c ns ops → Follows p l c (Write q keys rows links ∷ ns) ops
   -- a write that was made here
   Writes_here : {q : ℕ} {keys : List Interval} {rows : Plain} {links : List Went} {ns : List Note} {f : Footprint} {new : Table} {ops : List Operation}
-      → went_to l c links ≡ true → IsChangeOf l keys rows (Changed f new) → Follows p l c ns ops → Follows p l c (Write q keys rows links ∷ ns) (Changed f new ∷ ops)
-  -- a scan that protects no read that is noted
-  Scans_more : {ns : List Note} {f : Footprint} {rows : Table} {ops : List Operation} → Follows p l c ns ops → Follows p l c ns (Scanned f rows ∷ ops)
+    → went_to l c links ≡ true → IsChangeOf l keys rows (Changed f new) → Follows p l c ns ops → Follows p l c (Write q keys rows links ∷ ns) (Changed f new ∷ ops)
+  -- a scan changes nothing
+  Scans_pass : {ns : List Note} {f : Footprint} {rows : Table} {ops : List Operation} → Follows p l c ns ops → Follows p l c ns (Scanned f rows ∷ ops)
   -- a change of another link's table at the same server
   Changes_other : {ns : List Note} {f : Footprint} {new : Table} {ops : List Operation} → f.table ≢ l → Follows p l c ns ops → Follows p l c ns (Changed f new ∷ ops)
+
+-- A read was made here as a scan, after the writes of the earlier notes and before those of the later ones. In which order the scans
+-- between two writes came doesn't matter.
+pub data IsReadAt (p : Placement) (l c q : ℕ) (keys : List Interval) (look : Plain → Plain) (found : Plain) (ns : List Note) : List Operation → Type 0 where
+  Here : {f : Footprint} {rows : Table} {older : List Operation} → IsScanOf p l q keys look found (Scanned f rows) → Follows p l c ns older → IsReadAt p l c q keys look found ns (Scanned f rows ∷ older)
+  Earlier : {op : Operation} {older : List Operation} → IsReadAt p l c q keys look found ns older → IsReadAt p l c q keys look found ns (op ∷ older)
+
+-- Each read that the notes say was made here was.
+abbrev pub ReadsFollow : Placement → ℕ → ℕ → List Note → List Operation → Type 0
+ReadsFollow p l c [] ops = Unit {0}
+ReadsFollow p l c (Read q keys look found links ∷ ns) ops = (went_to l c links ≡ true → IsReadAt p l c q keys look found ns ops) × ReadsFollow p l c ns ops
+ReadsFollow p l c (Write q keys rows links ∷ ns) ops = ReadsFollow p l c ns ops
+
+-- What was done on a connection, seen at a link, is what the notes say went there.
+pub record IsTold (p : Placement) (l c : ℕ) (notes : List Note) (ops : List Operation) : Type 0 where
+  pub changes : Follows p l c notes ops
+  pub reads : ReadsFollow p l c notes ops
 
 -- Links of the partition.
 abbrev pub all_of : Placement → ℕ → List Went → Bool
@@ -259,7 +277,7 @@ are_protected f p link ms (Write q keys rows links ∷ older) = are_protected f 
 -- The notes of a transaction are what it was told, and what they name was sent.
 pub record AreNoted (f : Topology) (p : Placement) (v : Front) (x : ℕ) (ms : List ℕ) (notes : List Note) : Type 0 where
   pub sent : notes_sent notes (v.sent x) ≡ true
-  pub told : (l c : ℕ) → is_member c ms ≡ true → f.home c ≡ p.at l → Follows p l c notes (done_on c (v.core.transaction x).log)
+  pub told : (l c : ℕ) → is_member c ms ≡ true → f.home c ≡ p.at l → IsTold p l c notes (done_on c (v.core.transaction x).log)
 
 -- A transaction of statements may be decided. (That its boot is the present one is `ready`: who is live was drawn in this boot.)
 pub record MayDecide (f : Topology) (p : Placement) (v : Front) (x : ℕ) (ms : List ℕ) (notes : List Note) : Type 0 where

@@ -63,7 +63,7 @@ found_by e = map (λ (s : Scanned_part). s.found) e.scanned
 
 abbrev pub reads_onto : List Scanned_part → List Note → List Note
 reads_onto [] notes = notes
-reads_onto (s ∷ ss) notes = Read s.scan.partition s.scan.keys s.scan.look s.found s.links ∷ reads_onto ss notes
+reads_onto (s ∷ ss) notes = reads_onto ss (Read s.scan.partition s.scan.keys s.scan.look s.found s.links ∷ notes)
 
 abbrev pub writes_onto : (ℕ → List Went) → List PartChange → List Note → List Note
 writes_onto went [] notes = notes

@@ -3,16 +3,16 @@
 use Rattle.std.proofs.Common.{◌≡◌, ◌≢◌, ℕ, Bool, true, false, cond, ◌&&◌, ◌||◌, eqb, leb, List, [], ◌∷◌, Option, Some, None, refl, sym, ap, ◌∙◌, subst, arith, ◌⊎◌, inl, inr, ⊎_elim, eqb-true}
 use Rattle.std.proofs.lemmas.Bool.Decides.{nat_tests}
 use Rattle.std.proofs.lemmas.Bool.{cases_Bool, cases_eq}
-use Rattle.commit_protocol.specs.Rows.{Interval, Table, is_within, is_in_one, after, AreRight}
+use Rattle.commit_protocol.specs.Rows.{Interval, Operation, Table, is_within, is_in_one, after, AreRight}
 use Rattle.commit_protocol.specs.Network.{Topology}
 use Rattle.commit_protocol.specs.Protocol.{Transaction, Decision, has_member, is_member, are_ready, done_on, done_at, decided_rows}
-use Rattle.commit_protocol.specs.Links.{Plain, Placement, Went, Note, Link, Status, Cursor, Mark, CopyBatch, EndsAt, at_link, lies, plain_after, plain, IsPlainRun, IsPlainSerial, is_ok, is_recovery, is_ng, reaches_key, is_below, is_copied, comes_to, has_by, went_to, went_in, notes_sent, AreWritten, protects, are_protected, Follows, is_put, puts_onto, copy_notes, batch_notes, batch_mark}
+use Rattle.commit_protocol.specs.Links.{Plain, Placement, Went, Note, Link, Status, Cursor, Mark, CopyBatch, EndsAt, at_link, lies, seen_in, plain_after, plain, IsPlainRun, IsPlainSerial, is_ok, is_recovery, is_ng, reaches_key, is_below, is_copied, comes_to, has_by, went_to, went_in, notes_sent, AreWritten, protects, are_protected, Follows, ReadsFollow, IsTold, is_put, puts_onto, copy_notes, batch_notes, batch_mark}
 use Rattle.commit_protocol.specs.Links.Note.{Read, Write}
 use Rattle.commit_protocol.specs.Links.Status.{OK, RECOVERY, NG}
 use Rattle.commit_protocol.specs.Links.Cursor.{Nothing, Up_to, All}
 use Rattle.protocol_law.proofs.Serial.{member_of, none_at}
 use Rattle.replica_law.proofs.Present.{ArePresent, present_went, present_protects}
-use Rattle.replica_law.proofs.Notes.{AllWent, NoneWent, NoneOf, Before, same_plain, of_went, none_of_after, follows_after, follows_none, follows_tail, follows_read}
+use Rattle.replica_law.proofs.Notes.{AllWent, NoneWent, NoneOf, same_plain, of_went, none_of_after, follows_after, follows_none, found_there}
 
 -- ---- what holds of links, marks, history and book
 
@@ -61,11 +61,13 @@ none_of f p link ms l (Write q keys rows links ∷ older) w n m = ((λ e. let ye
 
 -- ---- its reads
 
--- what was done at an OK link on a member's connection, down to these notes
+-- what was done at an OK link on a member's connection, with the reads of these notes among it
 pub record Done_there (f : Topology) (p : Placement) (table : ℕ → Table) (asked : ℕ → Option ℕ) (l : ℕ) (notes : List Note) : Type 0 where
   pub on : ℕ
   pub asked_on : asked (p.at l) ≡ Some on
-  pub before : Before p l on (table l) notes
+  pub ops : List Operation
+  pub right : AreRight (table l) ops
+  pub reads : ReadsFollow p l on notes ops
 
 plain_run : (f : Topology) (p : Placement) (link : ℕ → Link) (ms : List ℕ) (line asked : ℕ → Option ℕ) (hs : List Went) (u : Plain) (table : ℕ → Table) (notes : List Note)
     → ((l k : ℕ) → is_ok (link l).status ≡ true → p.partition k ≡ p.of l → table l (at_link l k) ≡ u k)
@@ -73,26 +75,23 @@ plain_run : (f : Topology) (p : Placement) (link : ℕ → Link) (ms : List ℕ)
     → ArePresent p link line asked hs → AreWritten f p link ms notes → notes_sent notes hs ≡ true → are_protected f p link ms notes ≡ true → IsPlainRun p u notes
 plain_run f p link ms line asked hs u table [] good there i w s r = tt
 plain_run f p link ms line asked hs u table (Write q keys rows links ∷ older) good there i w s r =
-    plain_run f p link ms line asked hs u table older good
-    (λ l ok m. let d = there l ok m in record { on = d.on; asked_on = d.asked_on; before = follows_tail p l d.on (table l) (Write q keys rows links) older d.before.ops d.before.follows d.before.right })
-    i w.2 (grind arith) r
+    plain_run f p link ms line asked hs u table older good (λ l ok m. let d = there l ok m in record { on = d.on; asked_on = d.asked_on; ops = d.ops; right = d.right; reads = d.reads }) i w.2 (grind arith) r
 plain_run f p link ms line asked hs u table (Read q keys look found links ∷ older) good there i w s r =
     let g = present_protects f p link ms q links (grind arith) in
-    let d = there g.0 g.1 g.3 in
-    let went : went_to g.0 d.on links ≡ true = present_went p link line asked g.0 d.on links hs g.4 (grind arith) d.asked_on i in
-    let k = follows_read p g.0 d.on (table g.0) q keys look found links older d.before.ops d.before.follows d.before.right went in (
-      k.1 ∙ ap look (same_plain _ _ (λ n. same g.0 g.1 g.2 d.on d.asked_on k.0 n (lies p q keys n) refl)),
-      plain_run f p link ms line asked hs u table older good
-          (λ l ok m. let e = there l ok m in record { on = e.on; asked_on = e.asked_on; before = follows_tail p l e.on (table l) (Read q keys look found links) older e.before.ops e.before.follows e.before.right })
-          i w (grind arith) (grind arith),
-    )
+    (one g.0 g.1 g.2 g.4 (there g.0 g.1 g.3), plain_run f p link ms line asked hs u table older good (λ l ok m. let d = there l ok m in record { on = d.on; asked_on = d.asked_on; ops = d.ops; right = d.right; reads = d.reads.1 }) i w (grind arith) (grind arith))
   where
-    same : (l : ℕ) → is_ok (link l).status ≡ true → p.of l ≡ q → (c : ℕ) → asked (p.at l) ≡ Some c → (b : Before p l c (table l) older) → (n : ℕ) (v : Bool) → lies p q keys n ≡ v
-        → cond (lies p q keys n) (after (table l) b.ops (at_link l n)) None ≡ cond (lies p q keys n) (plain_after p u older n) None
-    same l ok of c a b n true e =
+    same : (l : ℕ) → is_ok (link l).status ≡ true → p.of l ≡ q → (c : ℕ) → asked (p.at l) ≡ Some c → (ops : List Operation) → Follows p l c older ops → (n : ℕ) (v : Bool) → lies p q keys n ≡ v
+        → cond (lies p q keys n) (after (table l) ops (at_link l n)) None ≡ cond (lies p q keys n) (plain_after p u older n) None
+    same l ok of c a ops b n true e =
         let placed : p.partition n ≡ p.of l = eqb-true (p.partition n) q (grind arith) ∙ sym of in
-        ap (λ z. cond (lies p q keys n) z None) (follows_after p l c (table l) u older b.ops n b.follows (all_went f p link ms line asked l c hs older w (grind arith) i (ok_not_ng _ ok) a) placed (good l n ok placed))
-    same l ok of c a b n false e = ap (λ v. cond v (after (table l) b.ops (at_link l n)) None) e ∙ sym (ap (λ v. cond v (plain_after p u older n) None) e)
+        ap (λ z. cond (lies p q keys n) z None) (follows_after p l c (table l) u older ops n b (all_went f p link ms line asked l c hs older w (grind arith) i (ok_not_ng _ ok) a) placed (good l n ok placed))
+    same l ok of c a ops b n false e = ap (λ v. cond v (after (table l) ops (at_link l n)) None) e ∙ sym (ap (λ v. cond v (plain_after p u older n) None) e)
+
+    one : (l : ℕ) → is_ok (link l).status ≡ true → p.of l ≡ q → went_in l (link l).epoch links ≡ true → Done_there f p table asked l (Read q keys look found links ∷ older) → found ≡ look (seen_in p q keys (plain_after p u older))
+    one l ok of went d =
+        let here : went_to l d.on links ≡ true = present_went p link line asked l d.on links hs went (grind arith) d.asked_on i in
+        let k = found_there p l d.on (table l) q keys look found older d.ops (d.reads.0 here) d.right in
+        k.is ∙ ap look (same_plain _ _ (λ n. same l ok of d.on d.asked_on k.older k.follows n (lies p q keys n) refl))
 
 -- ---- what a decision shows
 
@@ -102,11 +101,11 @@ pub record Standing (f : Topology) (p : Placement) (link : ℕ → Link) (line :
   pub present : ArePresent p link line t.asked hs
   pub right : (s : ℕ) → AreRight (decided_rows f s history) (done_at f s d.members d.log)
   pub sent : notes_sent notes hs ≡ true
-  pub told : (l c : ℕ) → is_member c d.members ≡ true → f.home c ≡ p.at l → Follows p l c notes (done_on c d.log)
+  pub told : (l c : ℕ) → is_member c d.members ≡ true → f.home c ≡ p.at l → IsTold p l c notes (done_on c d.log)
 
 -- what it did at a link on a member
 pub there : (f : Topology) (p : Placement) (link : ℕ → Link) (line : ℕ → Option ℕ) (t : Transaction) (hs : List Went) (history : List Decision) (d : Decision) (notes : List Note) → Standing f p link line t hs history d notes
-    → (l : ℕ) → has_member f (p.at l) d.members ≡ true → (c : ℕ) × (t.asked (p.at l) ≡ Some c) × (done_at f (p.at l) d.members d.log ≡ done_on c d.log) × Follows p l c notes (done_on c d.log) × AreRight (decided_rows f (p.at l) history) (done_on c d.log)
+    → (l : ℕ) → has_member f (p.at l) d.members ≡ true → (c : ℕ) × (t.asked (p.at l) ≡ Some c) × (done_at f (p.at l) d.members d.log ≡ done_on c d.log) × IsTold p l c notes (done_on c d.log) × AreRight (decided_rows f (p.at l) history) (done_on c d.log)
 there f p link line t hs history d notes i l m =
     let c = member_of f t d.members (p.at l) d.log i.ready m in
     (c.0, c.2, c.3, i.told l c.0 c.4 c.1, subst (λ z. AreRight (decided_rows f (p.at l) history) z) c.3 (i.right (p.at l)))
@@ -120,7 +119,7 @@ statements_hold f p link line t hs history d notes marks book i writes reads h =
         (λ (m : has_member f (p.at l) d.members ≡ true).
         let c = there f p link line t hs history d notes i l m in
         ap (λ z. after (decided_rows f (p.at l) history) z (at_link l k)) c.2
-        ∙ follows_after p l c.0 (decided_rows f (p.at l) history) (plain p book) notes (done_on c.0 d.log) k c.3
+        ∙ follows_after p l c.0 (decided_rows f (p.at l) history) (plain p book) notes (done_on c.0 d.log) k c.3.changes
         (all_went f p link d.members line t.asked l c.0 hs notes writes i.sent i.present (has_not_ng marks l (link l) _ k has) c.1) e (h.good l k has e))
         (λ (m : has_member f (p.at l) d.members ≡ false).
         ap (λ z. after (decided_rows f (p.at l) history) z (at_link l k)) (none_at f d.members (p.at l) d.log m)
@@ -130,7 +129,7 @@ statements_hold f p link line t hs history d notes marks book i writes reads h =
     run : IsPlainRun p (plain p book) notes
     run = plain_run f p link d.members line t.asked hs (plain p book) (λ l. decided_rows f (p.at l) history) notes
         (λ l k ok e. h.good l k (ok_has marks l (link l) _ k ok) e)
-        (λ l ok m. let c = there f p link line t hs history d notes i l m in record { on = c.0; asked_on = c.1; before = record { ops = done_on c.0 d.log; follows = c.3; right = c.4 } })
+        (λ l ok m. let c = there f p link line t hs history d notes i l m in record { on = c.0; asked_on = c.1; ops = done_on c.0 d.log; right = c.4; reads = c.3.reads })
         i.present writes i.sent reads
 
 -- ---- copies
@@ -202,9 +201,9 @@ puts_sent : (p : Placement) (b : CopyBatch) (hs : List Went) (puts : List (List 
 puts_sent p b hs [] notes s = s
 puts_sent p b hs (keys ∷ more) notes s = puts_sent p b hs more notes (grind (arith, s))
 
-before_puts : (p : Placement) (b : CopyBatch) (l c : ℕ) (t : Table) (puts : List (List Interval)) (notes : List Note) → Before p l c t (puts_onto p b puts notes) → Before p l c t notes
-before_puts p b l c t [] notes i = i
-before_puts p b l c t (keys ∷ more) notes i = before_puts p b l c t more notes (follows_tail p l c t _ _ i.ops i.follows i.right)
+puts_read : (p : Placement) (b : CopyBatch) (l c : ℕ) (puts : List (List Interval)) (notes : List Note) (ops : List Operation) → ReadsFollow p l c (puts_onto p b puts notes) ops → ReadsFollow p l c notes ops
+puts_read p b l c [] notes ops r = r
+puts_read p b l c (keys ∷ more) notes ops r = puts_read p b l c more notes ops r
 
 -- what is known of a batch as its record is written
 pub record CopyStands (f : Topology) (p : Placement) (link : ℕ → Link) (marks : List Mark) (d : Decision) (b : CopyBatch) : Type 0 where
@@ -226,10 +225,10 @@ batch_holds f p link line t hs history d b marks book i c h = record { good = go
     went_there : went_in b.target.link (link b.target.link).epoch (b.target ∷ []) ≡ true
     went_there = grind (arith, nat_tests, c.target)
 
-    at_target : (q : ℕ) × (t.asked (p.at b.target.link) ≡ Some q) × (done_at f (p.at b.target.link) d.members d.log ≡ done_on q d.log) × Follows p b.target.link q (batch_notes p b) (done_on q d.log) × AreRight (table b.target.link) (done_on q d.log)
+    at_target : (q : ℕ) × (t.asked (p.at b.target.link) ≡ Some q) × (done_at f (p.at b.target.link) d.members d.log ≡ done_on q d.log) × IsTold p b.target.link q (batch_notes p b) (done_on q d.log) × AreRight (table b.target.link) (done_on q d.log)
     at_target = there f p link line t hs history d (batch_notes p b) i b.target.link (grind (arith, c.target))
 
-    at_source : (q : ℕ) × (t.asked (p.at b.source.link) ≡ Some q) × (done_at f (p.at b.source.link) d.members d.log ≡ done_on q d.log) × Follows p b.source.link q (batch_notes p b) (done_on q d.log) × AreRight (table b.source.link) (done_on q d.log)
+    at_source : (q : ℕ) × (t.asked (p.at b.source.link) ≡ Some q) × (done_at f (p.at b.source.link) d.members d.log ≡ done_on q d.log) × IsTold p b.source.link q (batch_notes p b) (done_on q d.log) × AreRight (table b.source.link) (done_on q d.log)
     at_source = there f p link line t hs history d (batch_notes p b) i b.source.link (grind (arith, c.source))
 
     noted : notes_sent (copy_notes p b) hs ≡ true
@@ -244,20 +243,19 @@ batch_holds f p link line t hs history d b marks book i c h = record { good = go
     -- the source's rows are the plain tables'
     rows_are : (k : ℕ) → is_within b.keys k ≡ true → p.partition k ≡ p.of b.source.link → b.rows k ≡ plain p book k
     rows_are k w e =
-        let one = before_puts p b b.source.link at_source.0 (table b.source.link) b.puts (copy_notes p b) (record { ops = done_on at_source.0 d.log; follows = at_source.3; right = at_source.4 }) in
-        let two = follows_tail p b.source.link at_source.0 (table b.source.link) _ _ one.ops one.follows one.right in
-        let read = follows_read p b.source.link at_source.0 (table b.source.link) (p.of b.source.link) (b.keys ∷ []) (λ z. z) b.rows (b.source ∷ []) [] two.ops two.follows two.right to_source in
+        let reads : ReadsFollow p b.source.link at_source.0 (copy_notes p b) (done_on at_source.0 d.log) = puts_read p b b.source.link at_source.0 b.puts (copy_notes p b) (done_on at_source.0 d.log) at_source.3.reads in
+        let read = found_there p b.source.link at_source.0 (table b.source.link) (p.of b.source.link) (b.keys ∷ []) (λ z. z) b.rows [] (done_on at_source.0 d.log) (reads.0 to_source) at_source.4 in
         let inside : lies p (p.of b.source.link) (b.keys ∷ []) k ≡ true = grind (arith, nat_tests) in
-        ap (λ (z : Plain). z k) read.1
-        ∙ ap (λ v. cond v (after (table b.source.link) read.0.ops (at_link b.source.link k)) None) inside
-        ∙ follows_none p b.source.link at_source.0 (table b.source.link) [] read.0.ops k read.0.follows tt
+        ap (λ (z : Plain). z k) read.is
+        ∙ ap (λ v. cond v (after (table b.source.link) read.older (at_link b.source.link k)) None) inside
+        ∙ follows_none p b.source.link at_source.0 (table b.source.link) [] read.older k read.follows tt
         ∙ h.good b.source.link k (ok_has marks b.source.link (link b.source.link) _ k (grind (arith, c.source))) e
 
     -- what the destination has then
     target_after : (k : ℕ) → p.partition k ≡ p.of b.target.link → after (table b.target.link) (done_at f (p.at b.target.link) d.members d.log) (at_link b.target.link k) ≡ cond (is_within b.keys k) (b.rows k) (table b.target.link (at_link b.target.link k))
     target_after k e =
         ap (λ z. after (table b.target.link) z (at_link b.target.link k)) at_target.2
-        ∙ follows_after p b.target.link at_target.0 (table b.target.link) (λ n. table b.target.link (at_link b.target.link n)) (batch_notes p b) (done_on at_target.0 d.log) k at_target.3
+        ∙ follows_after p b.target.link at_target.0 (table b.target.link) (λ n. table b.target.link (at_link b.target.link n)) (batch_notes p b) (done_on at_target.0 d.log) k at_target.3.changes
         (puts_went p b at_target.0 b.puts (copy_notes p b) to_target ((λ q. to_target), (λ q. refl), tt)) e refl
         ∙ batch_after p b (λ n. table b.target.link (at_link b.target.link n)) k c.put c.within e
 
@@ -294,7 +292,7 @@ batch_holds f p link line t hs history d b marks book i c h = record { good = go
         (λ (m : has_member f (p.at l) d.members ≡ true).
         let q = there f p link line t hs history d (batch_notes p b) i l m in
         let away : went_to l q.0 (b.target ∷ []) ≡ false = grind (arith, nat_tests) in
-        ap (λ z. after (table l) z (at_link l k)) q.2 ∙ follows_none p l q.0 (table l) (batch_notes p b) (done_on q.0 d.log) k q.3 (puts_none p b l q.0 b.puts (copy_notes p b) away (away, tt)))
+        ap (λ z. after (table l) z (at_link l k)) q.2 ∙ follows_none p l q.0 (table l) (batch_notes p b) (done_on q.0 d.log) k q.3.changes (puts_none p b l q.0 b.puts (copy_notes p b) away (away, tt)))
         (λ (m : has_member f (p.at l) d.members ≡ false). ap (λ z. after (table l) z (at_link l k)) (none_at f d.members (p.at l) d.log m))
         (cases_Bool (has_member f (p.at l) d.members))
 

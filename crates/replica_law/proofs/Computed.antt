@@ -5,8 +5,9 @@ use Rattle.commit_protocol.specs.Rows.{is_within, is_in_one}
 use Rattle.commit_protocol.specs.Network.{Topology}
 use Rattle.commit_protocol.specs.Backend.Request.{Commit}
 use Rattle.commit_protocol.specs.Protocol.{is_member, has_member, done_on}
-use Rattle.commit_protocol.specs.Links.{Placement, Front, Status, is_ng, went_in, AreWritten, Follows, is_put, MayDecide, MayCopy, Next, Run, new_front, batch_notes}
-use Rattle.commit_protocol.specs.Links.Follows.{Ends, Passes, Reads_here, Writes_here}
+use Rattle.commit_protocol.specs.Links.{Placement, Front, Status, is_ng, went_in, AreWritten, IsTold, is_put, MayDecide, MayCopy, Next, Run, new_front, batch_notes}
+use Rattle.commit_protocol.specs.Links.Follows.{Ends, Reads_pass, Writes_pass, Writes_here, Scans_pass}
+use Rattle.commit_protocol.specs.Links.IsReadAt.{Here, Earlier}
 use Rattle.commit_protocol.specs.Links.Next.{Goes, Opens, Scans, Changes, Prepares, Decides, Copies, Is_recorded, Is_reopened, Falls, Rises, Moves_cursor, Completes}
 use Rattle.commit_protocol.specs.Links.Run.{Stays, Steps}
 use Rattle.commit_protocol.specs.Links.Cursor.{All}
@@ -52,10 +53,10 @@ both_told P zero_one one_two l c m h = ⊎_elim
     (λ (e : c ≡ 2). subst (λ d. wires.home d ≡ l → P l d) (sym e) (λ (q : 1 ≡ l). subst (λ n. P n 2) q one_two) h)
     (one_or_two c m)
 
-first_told : (l c : ℕ) → is_member c (1 ∷ 2 ∷ []) ≡ true → wires.home c ≡ l → Follows places l c first_notes (done_on c (front_ready.core.transaction 7).log)
-first_told = both_told (λ l c. Follows places l c first_notes (done_on c (front_ready.core.transaction 7).log))
-    (Writes_here refl (λ k. (refl, λ h. refl)) (Reads_here ((λ k h. h), refl) Ends))
-    (Writes_here refl (λ k. (refl, λ h. refl)) (Reads_here ((λ k h. h), refl) Ends))
+first_told : (l c : ℕ) → is_member c (1 ∷ 2 ∷ []) ≡ true → wires.home c ≡ l → IsTold places l c first_notes (done_on c (front_ready.core.transaction 7).log)
+first_told = both_told (λ l c. IsTold places l c first_notes (done_on c (front_ready.core.transaction 7).log))
+    (record { changes = Writes_here refl (λ k. (refl, λ h. refl)) (Reads_pass (Scans_pass Ends)); reads = ((λ w. Earlier (Here ((λ k h. h), refl) Ends)), tt) })
+    (record { changes = Writes_here refl (λ k. (refl, λ h. refl)) (Reads_pass (Scans_pass Ends)); reads = ((λ w. Earlier (Here ((λ k h. h), refl) Ends)), tt) })
 
 first_written : AreWritten wires places front_ready.link (1 ∷ 2 ∷ []) first_notes
 first_written = (
@@ -76,11 +77,11 @@ copied_run = run_acted wires places (new_front configured) front_writing copies_
 at_three : (k : ℕ) → is_in_one one_key k ≡ true → Some 5 ≡ rows_copied k
 at_three k h = let e : k ≡ 3 = grind (arith, nat_tests, h) in subst (λ n. Some 5 ≡ rows_copied n) (sym e) refl
 
-source_told : Follows places 0 1 (batch_notes places one_batch) done_at_source
-source_told = Passes refl (Passes refl (Reads_here ((λ k h. h), refl) Ends))
+source_told : IsTold places 0 1 (batch_notes places one_batch) done_at_source
+source_told = record { changes = Writes_pass refl (Writes_pass refl (Reads_pass (Scans_pass Ends))); reads = ((λ w. Here ((λ k h. h), refl) Ends), tt) }
 
-target_told : Follows places 1 2 (batch_notes places one_batch) done_at_target
-target_told = Writes_here refl (λ k. (refl, λ h. at_three k h)) (Writes_here refl (λ k. (refl, λ h. refl)) (Passes refl Ends))
+target_told : IsTold places 1 2 (batch_notes places one_batch) done_at_target
+target_told = record { changes = Writes_here refl (λ k. (refl, λ h. at_three k h)) (Writes_here refl (λ k. (refl, λ h. refl)) (Reads_pass Ends)); reads = ((λ w. cc), tt) }
 
 at_source : done_at_source ≡ done_on 1 (front_copied.core.transaction 8).log
 at_source = refl
@@ -88,10 +89,10 @@ at_source = refl
 at_target : done_at_target ≡ done_on 2 (front_copied.core.transaction 8).log
 at_target = refl
 
-batch_told : (l c : ℕ) → is_member c (1 ∷ 2 ∷ []) ≡ true → wires.home c ≡ l → Follows places l c (batch_notes places one_batch) (done_on c (front_copied.core.transaction 8).log)
-batch_told = both_told (λ l c. Follows places l c (batch_notes places one_batch) (done_on c (front_copied.core.transaction 8).log))
-    (subst (λ ops. Follows places 0 1 (batch_notes places one_batch) ops) at_source source_told)
-    (subst (λ ops. Follows places 1 2 (batch_notes places one_batch) ops) at_target target_told)
+batch_told : (l c : ℕ) → is_member c (1 ∷ 2 ∷ []) ≡ true → wires.home c ≡ l → IsTold places l c (batch_notes places one_batch) (done_on c (front_copied.core.transaction 8).log)
+batch_told = both_told (λ l c. IsTold places l c (batch_notes places one_batch) (done_on c (front_copied.core.transaction 8).log))
+    (subst (λ ops. IsTold places 0 1 (batch_notes places one_batch) ops) at_source source_told)
+    (subst (λ ops. IsTold places 1 2 (batch_notes places one_batch) ops) at_target target_told)
 
 -- where no row is put, there is none
 not_three : (b : Bool) (k : ℕ) → is_in_one one_key k ≡ b → b ≡ false → cond {A = Option ℕ} (is_in_one one_key k) (Some 5) None ≡ None

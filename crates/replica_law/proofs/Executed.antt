@@ -1,7 +1,7 @@
 -- Where reads found what the plain tables gave, statements are executed one after another.
 use Rattle.std.proofs.Common.{◌≡◌, ℕ, List, [], ◌∷◌, map, refl, sym, ap, ◌∙◌, subst, ap₂}
-use Rattle.commit_protocol.specs.Links.{Plain, Placement, Went, Note, seen_in, plain_after, plain, IsPlainRun, IsPlainSerial}
-use Rattle.commit_protocol.specs.Links.Note.{Write}
+use Rattle.commit_protocol.specs.Links.{Plain, Placement, Went, Note, plain_after, plain, IsPlainRun, IsPlainSerial}
+use Rattle.commit_protocol.specs.Links.Note.{Read, Write}
 use Rattle.commit_protocol.specs.Statements.{PartChange, finds, changed, Scanned_part, Entry, found_by, reads_onto, writes_onto, notes_of, AreAnswered, AllAnswered, tables_after, IsExecuted, tables_of, AreSerial}
 
 after_writes : (p : Placement) (t : Plain) (went : ℕ → List Went) (changes : List PartChange) (notes : List Note) → plain_after p t (writes_onto went changes notes) ≡ changed p changes (plain_after p t notes)
@@ -10,7 +10,7 @@ after_writes p t went (a ∷ more) notes = after_writes p t went more (Write a.p
 
 after_reads : (p : Placement) (t : Plain) (ss : List Scanned_part) (notes : List Note) → plain_after p t (reads_onto ss notes) ≡ plain_after p t notes
 after_reads p t [] notes = refl
-after_reads p t (s ∷ ss) notes = after_reads p t ss notes
+after_reads p t (s ∷ ss) notes = after_reads p t ss (Read s.scan.partition s.scan.keys s.scan.look s.found s.links ∷ notes)
 
 run_writes : (p : Placement) (t : Plain) (went : ℕ → List Went) (changes : List PartChange) (notes : List Note) → IsPlainRun p t (writes_onto went changes notes) → IsPlainRun p t notes
 run_writes p t went [] notes r = r
@@ -21,10 +21,8 @@ run_reads : (p : Placement) (t : Plain) (ss : List Scanned_part) (notes : List N
     → (map (λ (s : Scanned_part). s.found) ss ≡ finds p (plain_after p t notes) (map (λ (s : Scanned_part). s.scan) ss)) × IsPlainRun p t notes
 run_reads p t [] notes r = (refl, r)
 run_reads p t (s ∷ ss) notes r =
-    let ih = run_reads p t ss notes r.1 in (
-      ap₂ (λ (x : Plain) (xs : List Plain). x ∷ xs) (r.0 ∙ ap (λ (u : Plain). s.scan.look (seen_in p s.scan.partition s.scan.keys u)) (after_reads p t ss notes)) ih.0,
-      ih.1,
-    )
+    let ih = run_reads p t ss (Read s.scan.partition s.scan.keys s.scan.look s.found s.links ∷ notes) r in
+    (ap₂ (λ (x : Plain) (xs : List Plain). x ∷ xs) ih.1.0 ih.0, ih.1.1)
 
 executed : (p : Placement) (t : Plain) (es : List Entry) → AreAnswered es → IsPlainRun p t (notes_of es) → IsExecuted p t es × (plain_after p t (notes_of es) ≡ tables_after p t es)
 executed p t [] a r = (tt, refl)

@@ -8,7 +8,7 @@ use Rattle.commit_protocol.specs.Network.{set, Topology, Reply, dialled_now}
 use Rattle.commit_protocol.specs.Protocol.{World, Transaction, Decision, Move, is_fresh, is_live, is_member, may_ask, may_use, may_decide, asks, asking, delivers, refuses, faults, reads, writes, recorded, with_phase, with_connection, uses_connection, sees_hangup, done_on, decided_rows, view, happens}
 use Rattle.commit_protocol.specs.Protocol.Phase.{Live, Over}
 use Rattle.commit_protocol.specs.Protocol.Move.{Draws, Dials, Uses, Sends, Delivers, Refuses, Faults, Reads, Breaks, Hangup_seen, Writes, Recorded, Gives_up, Stops, Front_stops, Reopens}
-use Rattle.commit_protocol.specs.Links.{Placement, Went, Note, Link, Status, Cursor, Mark, Matter, CopyBatch, Front, at_link, plain, is_recovery, reaches_key, is_copied, has_by, has_key, recorded_by, has_recorded, notes_sent, MayDecide, MayCopy, batch_notes, batch_mark, is_free, all_past, is_line, sends_to, booked, reopened, with_link, raised, IsMark, Follows, Next, Run, new_front}
+use Rattle.commit_protocol.specs.Links.{Placement, Went, Note, Link, Status, Cursor, Mark, Matter, CopyBatch, Front, at_link, plain, is_recovery, reaches_key, is_copied, has_by, has_key, recorded_by, has_recorded, notes_sent, MayDecide, MayCopy, batch_notes, batch_mark, is_free, all_past, is_line, sends_to, booked, reopened, with_link, raised, IsMark, IsTold, Next, Run, new_front}
 use Rattle.commit_protocol.specs.Links.Matter.{Statements, Batch}
 use Rattle.commit_protocol.specs.Links.Status.{OK, RECOVERY, NG}
 use Rattle.commit_protocol.specs.Links.Cursor.{Nothing, All}
@@ -217,7 +217,7 @@ written_now w x ms = record { number = x; log = (w.transaction x).log; members =
 
 -- who may be decided stands as a decision needs it
 standing : (f : Topology) (p : Placement) (v : Front) (x : ℕ) (ms : List ℕ) (notes : List Note) → may_decide f v.core x ms ≡ true → notes_sent notes (v.sent x) ≡ true
-    → ((l c : ℕ) → is_member c ms ≡ true → f.home c ≡ p.at l → Follows p l c notes (done_on c (v.core.transaction x).log)) → IsAgreed f p v
+    → ((l c : ℕ) → is_member c ms ≡ true → f.home c ≡ p.at l → IsTold p l c notes (done_on c (v.core.transaction x).log)) → IsAgreed f p v
     → Standing f p v.link (v.line x) (v.core.transaction x) (v.sent x) v.core.history (written_now v.core x ms) notes
 standing f p v x ms notes may sent told i = record {
   ready = grind (arith, may);

@@ -3,9 +3,10 @@ use Rattle.std.proofs.Common.{◌≡◌, ◌≢◌, ℕ, Bool, true, false, cond
 use Rattle.std.proofs.lemmas.Bool.Decides.{nat_tests}
 use Rattle.std.proofs.lemmas.Bool.{cases_Bool}
 use Rattle.commit_protocol.specs.Rows.{Table, Interval, Footprint, Operation, is_in_one, covers, after, AreRight}
-use Rattle.commit_protocol.specs.Links.{Plain, Placement, Went, Note, at_link, lies, seen_in, written, plain_after, went_to, all_of, Follows}
+use Rattle.commit_protocol.specs.Links.{Plain, Placement, Went, Note, at_link, lies, seen_in, written, plain_after, went_to, all_of, Follows, IsReadAt}
 use Rattle.commit_protocol.specs.Links.Note.{Read, Write}
-use Rattle.commit_protocol.specs.Links.Follows.{Ends, Passes, Reads_here, Writes_here, Scans_more, Changes_other}
+use Rattle.commit_protocol.specs.Links.Follows.{Ends, Reads_pass, Writes_pass, Writes_here, Scans_pass, Changes_other}
+use Rattle.commit_protocol.specs.Links.IsReadAt.{Here, Earlier}
 
 -- two plain tables that have the same at each key are one
 pub same_plain : (t u : Plain) → ((k : ℕ) → t k ≡ u k) → t ≡ u
@@ -55,11 +56,10 @@ changes_other l f new t k ne = grind (arith, nat_tests)
 pub follows_after : (p : Placement) (l c : ℕ) (t : Table) (u : Plain) (notes : List Note) (ops : List Operation) (k : ℕ) → Follows p l c notes ops → AllWent p l c notes → p.partition k ≡ p.of l → t (at_link l k) ≡ u k
     → after t ops (at_link l k) ≡ plain_after p u notes k
 follows_after p l c t u notes ops k Ends w e h = h
-follows_after p l c t u notes ops k (Passes {n = Read q keys look found links} away rest) w e h = follows_after p l c t u _ ops k rest w e h
-follows_after p l c t u notes ops k (Passes {n = Write q keys rows links} {ns = ns} away rest) w e h =
+follows_after p l c t u notes ops k (Reads_pass rest) w e h = follows_after p l c t u _ ops k rest w e h
+follows_after p l c t u notes ops k (Writes_pass {q = q} {keys = keys} {rows = rows} {ns = ns} away rest) w e h =
     let ne : p.of l ≢ q = λ s. cc (w.0 s, away) in
     follows_after p l c t u ns ops k rest w.2 e h ∙ sym (written_else p l q keys rows (plain_after p u ns) k ne e)
-follows_after p l c t u notes ops k (Reads_here scan rest) w e h = follows_after p l c t u _ _ k rest w e h
 follows_after p l c t u notes ops k (Writes_here {q = q} {keys = keys} {rows = rows} {ns = ns} {f = f} {new = new} {ops = older} here change rest) w e h =
     same (is_in_one keys k) refl (follows_after p l c t u ns older k rest w.2 e h)
   where
@@ -79,48 +79,36 @@ follows_after p l c t u notes ops k (Writes_here {q = q} {keys = keys} {rows = r
         let free : covers f (at_link l k) ≡ false = (change k).0 ∙ s in
         let outside : (eqb (p.partition k) q && is_in_one keys k) ≡ false = grind arith in
         ap (λ v. cond v (new (at_link l k)) (after t older (at_link l k))) free ∙ ih ∙ sym (ap (λ v. cond v (rows k) (plain_after p u ns k)) outside)
-follows_after p l c t u notes ops k (Scans_more rest) w e h = follows_after p l c t u notes _ k rest w e h
+follows_after p l c t u notes ops k (Scans_pass rest) w e h = follows_after p l c t u notes _ k rest w e h
 follows_after p l c t u notes ops k (Changes_other {f = f} {new = new} {ops = older} ne rest) w e h = changes_other l f new (after t older) k ne ∙ follows_after p l c t u notes older k rest w e h
 
 -- where no write went there, nothing is changed there
 pub follows_none : (p : Placement) (l c : ℕ) (t : Table) (notes : List Note) (ops : List Operation) (k : ℕ) → Follows p l c notes ops → NoneWent l c notes → after t ops (at_link l k) ≡ t (at_link l k)
 follows_none p l c t notes ops k Ends w = refl
-follows_none p l c t notes ops k (Passes {n = Read q keys look found links} away rest) w = follows_none p l c t _ ops k rest w
-follows_none p l c t notes ops k (Passes {n = Write q keys rows links} away rest) w = follows_none p l c t _ ops k rest w.1
-follows_none p l c t notes ops k (Reads_here scan rest) w = follows_none p l c t _ _ k rest w
+follows_none p l c t notes ops k (Reads_pass rest) w = follows_none p l c t _ ops k rest w
+follows_none p l c t notes ops k (Writes_pass away rest) w = follows_none p l c t _ ops k rest w.1
 follows_none p l c t notes ops k (Writes_here here change rest) w = cc (w.0, here)
-follows_none p l c t notes ops k (Scans_more rest) w = follows_none p l c t notes _ k rest w
+follows_none p l c t notes ops k (Scans_pass rest) w = follows_none p l c t notes _ k rest w
 follows_none p l c t notes ops k (Changes_other {f = f} {new = new} {ops = older} ne rest) w = changes_other l f new (after t older) k ne ∙ follows_none p l c t notes older k rest w
 
 -- ---- reads
 
--- what was done there before the newest note, right as all was
-pub record Before (p : Placement) (l c : ℕ) (t : Table) (ns : List Note) : Type 0 where
-  pub ops : List Operation
-  pub follows : Follows p l c ns ops
-  pub right : AreRight t ops
+-- what had been done there as a read was made, and what the read found
+pub record Found_there (p : Placement) (l c : ℕ) (t : Table) (q : ℕ) (keys : List Interval) (look : Plain → Plain) (found : Plain) (ns : List Note) : Type 0 where
+  pub older : List Operation
+  pub follows : Follows p l c ns older
+  pub is : found ≡ look (seen_in p q keys (λ k. after t older (at_link l k)))
 
-pub follows_tail : (p : Placement) (l c : ℕ) (t : Table) (n : Note) (ns : List Note) (ops : List Operation) → Follows p l c (n ∷ ns) ops → AreRight t ops → Before p l c t ns
-follows_tail p l c t n ns ops (Passes away rest) r = record { ops = ops; follows = rest; right = r }
-follows_tail p l c t n ns ops (Reads_here {ops = older} scan rest) r = record { ops = older; follows = rest; right = r.1 }
-follows_tail p l c t n ns ops (Writes_here {ops = older} here change rest) r = record { ops = older; follows = rest; right = r.1 }
-follows_tail p l c t n ns ops (Scans_more {ops = older} rest) r = follows_tail p l c t n ns older rest r.1
-follows_tail p l c t n ns ops (Changes_other {ops = older} ne rest) r = follows_tail p l c t n ns older rest r.1
-
--- a read that went there found what the link's rows were then
-pub follows_read : (p : Placement) (l c : ℕ) (t : Table) (q : ℕ) (keys : List Interval) (look : Plain → Plain) (found : Plain) (links : List Went) (ns : List Note) (ops : List Operation)
-    → Follows p l c (Read q keys look found links ∷ ns) ops → AreRight t ops → went_to l c links ≡ true
-    → (b : Before p l c t ns) × (found ≡ look (seen_in p q keys (λ k. after t b.ops (at_link l k))))
-follows_read p l c t q keys look found links ns ops (Passes away rest) r w = cc (away, w)
-follows_read p l c t q keys look found links ns ops (Reads_here {f = f} {rows = rows} {ops = older} scan rest) r w = (
-  record { ops = older; follows = rest; right = r.1 },
-  sym scan.1 ∙ ap look (same_plain _ _ (λ k. same k (lies p q keys k) refl)),
-)
+pub found_there : (p : Placement) (l c : ℕ) (t : Table) (q : ℕ) (keys : List Interval) (look : Plain → Plain) (found : Plain) (ns : List Note) (ops : List Operation) → IsReadAt p l c q keys look found ns ops → AreRight t ops → Found_there p l c t q keys look found ns
+found_there p l c t q keys look found ns ops (Earlier {older = older} rest) r = found_there p l c t q keys look found ns older rest r.1
+found_there p l c t q keys look found ns ops (Here {f = f} {rows = rows} {older = older} scan before) r = record {
+  older = older;
+  follows = before;
+  is = sym scan.1 ∙ ap look (same_plain _ _ (λ k. same k (lies p q keys k) refl));
+}
   where
     same : (k : ℕ) (b : Bool) → lies p q keys k ≡ b → cond (lies p q keys k) (rows (at_link l k)) None ≡ cond (lies p q keys k) (after t older (at_link l k)) None
     same k true e =
         let covered : covers f (at_link l k) ≡ true = scan.0 k (grind arith) in
         ap (λ z. cond (lies p q keys k) z None) (r.0 (at_link l k) ∙ ap (λ v. cond v (after t older (at_link l k)) None) covered)
     same k false e = ap (λ v. cond v (rows (at_link l k)) None) e ∙ sym (ap (λ v. cond v (after t older (at_link l k)) None) e)
-follows_read p l c t q keys look found links ns ops (Scans_more {ops = older} rest) r w = follows_read p l c t q keys look found links ns older rest r.1 w
-follows_read p l c t q keys look found links ns ops (Changes_other {ops = older} ne rest) r w = follows_read p l c t q keys look found links ns older rest r.1 w
