@@ -16,8 +16,12 @@ use Rattle.protocol_law.proofs.Branches.{find_kept, find_kept_there, find_put, f
 use Rattle.protocol_law.proofs.Effects as known
 use Rattle.protocol_law.proofs.Effects.Did.{Kept, Showed, Begun, Grew, Closed, Readied, Dropped, Installed}
 use Rattle.protocol_law.proofs.Locks.{IsLocked, put_cases}
-use Rattle.protocol_law.proofs.Traffic.{IsOrderly, IsAllowed, AreAllowed, no_ran, is_ran, set_cases, none_told, served_rest, served_ready, IsNews, news_prepare, done_on_other, done_on_quiet, guarded, unless, IsLess, less_at, less_broken, less_ended, less_dialled, with_chans, stops_less, ends_all, none_undecided_then, with_server, with_queue, with_progress, notes_asked, ran_from, is_none_from, Says, says_left, did_left, orderly_serves}
-use Rattle.protocol_law.proofs.Traffic.Says.{As_done, Refuses_it}
+use Rattle.protocol_law.proofs.Traffic.{IsOrderly, IsAllowed, AreAllowed, no_ran, is_ran, set_cases, none_told, guarded, unless, is_none_from}
+use Rattle.protocol_law.proofs.Frames.{IsLess, less_at, less_broken, less_ended, less_dialled, with_chans, stops_less, ends_all, none_undecided_then, with_server, with_queue, with_progress}
+use Rattle.protocol_law.proofs.Sending.{notes_asked}
+use Rattle.protocol_law.proofs.Serving.{served_rest, served_ready, IsNews, news_prepare, ran_from, Says, says_left, did_left, orderly_serves}
+use Rattle.protocol_law.proofs.Orderly.{done_on_other, done_on_quiet}
+use Rattle.protocol_law.proofs.Serving.Says.{As_done, Refuses_it}
 
 -- the log once all the answers are read
 abbrev pub onto : List Reply → List Operation → List Operation

@@ -15,7 +15,8 @@ use Rattle.protocol_law.proofs.Branches.{find_xid}
 use Rattle.protocol_law.proofs.Logs.{untouched}
 use Rattle.protocol_law.proofs.Effects as known
 use Rattle.protocol_law.proofs.Effects.Did.{Kept, Showed, Begun, Grew, Closed, Readied, Dropped, Installed}
-use Rattle.protocol_law.proofs.Traffic.{IsOrderly, IsAllowed, AreAllowed, Waits, guarded, unless, orderly_happens, orderly_start}
+use Rattle.protocol_law.proofs.Traffic.{IsOrderly, IsAllowed, AreAllowed, Waits, guarded, unless}
+use Rattle.protocol_law.proofs.Orderly.{orderly_happens, orderly_start}
 use Rattle.protocol_law.proofs.Matched.{IsMatched, fresh_none, matched_happens, matched_start}
 use Rattle.protocol_law.proofs.Serial.{IsSerial, counts, same_held, has_branch, serial_happens, serial_start}
 use Rattle.protocol_law.proofs.Waiting.{waits_happens, waits_start}

@@ -17,7 +17,9 @@ use Rattle.protocol_law.proofs.Logs.{touched_is_owned, clear_of, owned_is_held, 
 use Rattle.protocol_law.proofs.Effects as known
 use Rattle.protocol_law.proofs.Effects.Did.{Kept, Showed, Begun, Grew, Closed, Readied, Dropped, Installed}
 use Rattle.protocol_law.proofs.Locks.{not_blocked}
-use Rattle.protocol_law.proofs.Traffic.{IsOrderly, IsAllowed, AreAllowed, IsWaiting, Waits, set_cases, guarded, unless, with_server, ready_member, orderly_serves, says_left, did_left}
+use Rattle.protocol_law.proofs.Traffic.{IsOrderly, IsAllowed, AreAllowed, IsWaiting, Waits, set_cases, guarded, unless, ready_member}
+use Rattle.protocol_law.proofs.Frames.{with_server}
+use Rattle.protocol_law.proofs.Serving.{orderly_serves, says_left, did_left}
 use Rattle.protocol_law.proofs.Matched.{IsMatched, Track, track, stays_but, is_install}
 use Rattle.protocol_law.proofs.Matched.Track.{Is_new, Has_grown, Is_same}
 

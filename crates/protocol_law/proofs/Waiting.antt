@@ -7,7 +7,8 @@ use Rattle.commit_protocol.specs.Network.{Topology, Reply, set, dialled_now}
 use Rattle.commit_protocol.specs.Protocol.{World, Transaction, Decision, Phase, Move, is_fresh, is_live, is_writing, may_ask, asks, readying, delivers, refuses, left_of, faults, noting, reading, reads, may_decide, may_use, are_ready, is_at, writes, recorded, uses_connection, with_phase, with_connection, sees_hangup, happens, start}
 use Rattle.commit_protocol.specs.Protocol.Phase.{Fresh, Live, Writing, Over}
 use Rattle.commit_protocol.specs.Protocol.Move.{Draws, Dials, Uses, Sends, Delivers, Refuses, Faults, Reads, Breaks, Hangup_seen, Writes, Recorded, Gives_up, Stops, Front_stops, Reopens}
-use Rattle.protocol_law.proofs.Traffic.{IsWaiting, Waits, set_cases, guarded, unless, served_rest, served_ready, is_none_from}
+use Rattle.protocol_law.proofs.Traffic.{IsWaiting, Waits, set_cases, guarded, unless, is_none_from}
+use Rattle.protocol_law.proofs.Serving.{served_rest, served_ready}
 use Rattle.protocol_law.proofs.Serial.{is_at_from}
 
 -- what a transaction that waits for its record keeps

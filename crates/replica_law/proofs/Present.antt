@@ -9,7 +9,8 @@ use Rattle.commit_protocol.specs.Protocol.{World, Transaction, Decision, Move, h
 use Rattle.commit_protocol.specs.Protocol.Phase.{Live, Over}
 use Rattle.commit_protocol.specs.Protocol.Move.{Draws, Dials, Uses, Sends, Delivers, Refuses, Faults, Reads, Breaks, Hangup_seen, Writes, Recorded, Gives_up, Stops, Front_stops, Reopens}
 use Rattle.commit_protocol.specs.Links.{Placement, Link, Went, went_to, went_in, was_sent, all_sent, protects, one_protects, is_ok, all_past, IsAmong}
-use Rattle.protocol_law.proofs.Traffic.{set_cases, guarded, unless, served_rest}
+use Rattle.protocol_law.proofs.Traffic.{set_cases, guarded, unless}
+use Rattle.protocol_law.proofs.Serving.{served_rest}
 
 -- ---- the invariant of one transaction
 
