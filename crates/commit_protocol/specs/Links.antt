@@ -217,13 +217,13 @@ pub data Follows (p : Placement) (l c : ℕ) : List Note → List Operation → 
   Ends : Follows p l c [] []
   -- a read changes nothing
   Reads_pass : {q : ℕ} {keys : List Interval} {look : Plain → Plain} {found : Plain} {links : List Went} {ns : List Note} {ops : List Operation}
-    → Follows p l c ns ops → Follows p l c (Read q keys look found links ∷ ns) ops
+      → Follows p l c ns ops → Follows p l c (Read q keys look found links ∷ ns) ops
   -- a write that didn't go here
   Writes_pass : {q : ℕ} {keys : List Interval} {rows : Plain} {links : List Went} {ns : List Note} {ops : List Operation}
-    → went_to l c links ≡ false → Follows p l c ns ops → Follows p l c (Write q keys rows links ∷ ns) ops
+      → went_to l c links ≡ false → Follows p l c ns ops → Follows p l c (Write q keys rows links ∷ ns) ops
   -- a write that was made here
   Writes_here : {q : ℕ} {keys : List Interval} {rows : Plain} {links : List Went} {ns : List Note} {f : Footprint} {new : Table} {ops : List Operation}
-    → went_to l c links ≡ true → IsChangeOf l keys rows (Changed f new) → Follows p l c ns ops → Follows p l c (Write q keys rows links ∷ ns) (Changed f new ∷ ops)
+      → went_to l c links ≡ true → IsChangeOf l keys rows (Changed f new) → Follows p l c ns ops → Follows p l c (Write q keys rows links ∷ ns) (Changed f new ∷ ops)
   -- a scan changes nothing
   Scans_pass : {ns : List Note} {f : Footprint} {rows : Table} {ops : List Operation} → Follows p l c ns ops → Follows p l c ns (Scanned f rows ∷ ops)
   -- a change of another link's table at the same server
