@@ -3,5 +3,6 @@ pub mod Backend
 pub mod Network
 pub mod Store
 pub mod Protocol
+pub mod Answers
 pub mod Links
 pub mod Statements

@@ -200,6 +200,7 @@ pub record IsLess (a b : Connection) : Type 0 where
   pub queue : (a.queue ≡ b.queue) ⊎ (a.queue ≡ [])
   pub unread : (a.unread ≡ b.unread) ⊎ ((a.unread ≡ []) × (a.missed ≡ true))
   pub missed : a.missed ≡ false → b.missed ≡ false
+  pub kept : a.missed ≡ false → a.queue ≡ b.queue
 
 abbrev pub with_chans : World → (ℕ → Connection) → World
 with_chans w g = record w { connection = g }
@@ -238,16 +239,16 @@ none_left c [] e = inl (sym e)
 none_left c (r ∷ rs) e = inr (refl, let some : no_replies c.unread ≡ false = ap no_replies e in grind arith)
 
 pub less_broken : (c : Connection) → IsLess (broken c) c
-less_broken c = record { xid = refl; begun = refl; queue = inl refl; unread = none_left c c.unread refl; missed = λ h. grind arith }
+less_broken c = record { xid = refl; begun = refl; queue = inl refl; unread = none_left c c.unread refl; missed = λ h. grind arith; kept = λ h. refl }
 
 pub less_ended : (c : Connection) → IsLess (ended c) c
-less_ended c = record { xid = refl; begun = refl; queue = inr refl; unread = none_left c c.unread refl; missed = λ h. grind arith }
+less_ended c = record { xid = refl; begun = refl; queue = inr refl; unread = none_left c c.unread refl; missed = λ h. grind arith; kept = λ h. sym (none_asked c.queue (grind arith)) }
 
 pub less_dialled : (c : Connection) → IsLess (dialled_now c) c
-less_dialled c = record { xid = refl; begun = refl; queue = inl refl; unread = inl refl; missed = λ h. h }
+less_dialled c = record { xid = refl; begun = refl; queue = inl refl; unread = inl refl; missed = λ h. h; kept = λ h. refl }
 
 pub less_same : (c : Connection) → IsLess c c
-less_same c = record { xid = refl; begun = refl; queue = inl refl; unread = inl refl; missed = λ h. h }
+less_same c = record { xid = refl; begun = refl; queue = inl refl; unread = inl refl; missed = λ h. h; kept = λ h. refl }
 
 -- one connection of which less is known
 pub less_at : (w : World) (c : ℕ) (n : Connection) → IsLess n (w.connection c) → (d : ℕ) → IsLess (set w.connection c n d) (w.connection d)

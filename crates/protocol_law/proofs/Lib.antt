@@ -12,3 +12,4 @@ pub mod Serial
 pub mod Waiting
 pub mod Runs
 pub mod Stores
+pub mod Answered

@@ -15,7 +15,8 @@ ghost use Rattle.commit_protocol.specs.Rows.{Key, AreApart, touches, owns, holds
 ghost use Rattle.commit_protocol.specs.Backend.{Branch, Request, Call, Stage, calls, new_server, find, effect, served, hung_up, stopped};
 ghost use Rattle.commit_protocol.specs.Backend.Effect.{Drop, Install};
 ghost use Rattle.commit_protocol.specs.Backend.Stage.{Prepared};
-ghost use Rattle.commit_protocol.specs.Network.{Topology, reply};
+ghost use Rattle.commit_protocol.specs.Network.{Topology, Reply, reply, is_empty};
+ghost use Rattle.commit_protocol.specs.Answers.{Answers, course, new_course};
 ghost use Rattle.commit_protocol.specs.Store.{stored, tells, store_hung_up, store_stopped, store_of};
 ghost use Rattle.commit_protocol.specs.Network.Reply.{Listed};
 ghost use Rattle.commit_protocol.specs.Protocol.{Move, run, start, happens, view, decided_at, decides_member, decided_rows, done_on, is_fresh, is_undecided, First, IsSerialAt};
@@ -40,6 +41,16 @@ pub fn prepared_is_told()
         is_undecided (w.transaction x).phase ≡ true → (w.transaction x).ready s ≡ true
         → (c : ℕ) × (b : Branch) × ((w.transaction x).asked s ≡ Some c) × (find x (w.server s).branches ≡ Some b)
         × (b.stage ≡ Prepared) × (b.log ≡ done_on c (w.transaction x).log) }
+{}
+
+/// On a connection that lost no answer, answers come in the order of the requests and what they say is true: `done` to a START
+/// means that the branch was begun, `done` to a PREPARE that it is prepared. Where nothing is due there, nothing is under way.
+pub fn answers_come_in_order()
+    ensures first { (f : Topology) (ms : List Move) (c : ℕ) (a : Reply) (more : List Reply) → let v = course f ms new_course in
+        (v.core.connection c).missed ≡ false → (v.core.connection c).unread ≡ a ∷ more
+        → (r : Request) × (rest : List Request) × (v.due c ≡ r ∷ rest) × Answers f v.core c r a }
+    ensures idle { (f : Topology) (ms : List Move) (c : ℕ) → let v = course f ms new_course in
+        (v.core.connection c).missed ≡ false → v.due c ≡ [] → is_empty (v.core.connection c) ≡ true }
 {}
 
 /// No prepared branch of a decided transaction ends in rollback at a member, and no branch ends in commit elsewhere, or before
