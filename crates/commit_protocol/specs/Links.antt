@@ -15,18 +15,18 @@ use Rattle.commit_protocol.specs.Protocol.Move.{Draws, Dials, Uses, Sends, Deliv
 abbrev pub Plain : Type 0
 Plain = ℕ → Option Row
 
--- partition: where each key is placed; of: the partition of a link; at: its server. A link's table at its server has the link's number.
+-- The partition of each key; of each link its partition and its server. A link's table at its server has the link's number.
 pub record Placement : Type 0 where
-  pub partition : ℕ → ℕ
-  pub of : ℕ → ℕ
-  pub at : ℕ → ℕ
+  pub key_partition : ℕ → ℕ
+  pub link_partition : ℕ → ℕ
+  pub link_server : ℕ → ℕ
 
 abbrev pub at_link : ℕ → ℕ → Key
 at_link l k = record { table = l; key = k }
 
 -- A key lies in these intervals of a partition.
 abbrev pub lies : Placement → ℕ → List Interval → ℕ → Bool
-lies p q keys k = eqb (p.partition k) q && is_in_one keys k
+lies p q keys k = eqb (p.key_partition k) q && is_in_one keys k
 
 pub data Status : Type 0 where
   OK : Status
@@ -249,7 +249,7 @@ pub record IsTold (p : Placement) (l c : ℕ) (notes : List Note) (ops : List Op
 -- Links of the partition.
 abbrev pub all_of : Placement → ℕ → List Went → Bool
 all_of p q [] = true
-all_of p q (g ∷ gs) = eqb (p.of g.link) q && all_of p q gs
+all_of p q (g ∷ gs) = eqb (p.link_partition g.link) q && all_of p q gs
 
 -- Each write went to links of its partition, and to each of these that isn't NG in its present epoch; its server is a member.
 abbrev pub AreWritten : Topology → Placement → (ℕ → Link) → List ℕ → List Note → Type 0
@@ -257,12 +257,12 @@ AreWritten f p link ms [] = Unit {0}
 AreWritten f p link ms (Read q keys look found links ∷ older) = AreWritten f p link ms older
 AreWritten f p link ms (Write q keys rows links ∷ older) =
     (all_of p q links ≡ true)
-    × ((l : ℕ) → p.of l ≡ q → is_ng (link l).status ≡ false → (went_in l (link l).epoch links ≡ true) × (has_member f (p.at l) ms ≡ true))
+    × ((l : ℕ) → p.link_partition l ≡ q → is_ng (link l).status ≡ false → (went_in l (link l).epoch links ≡ true) × (has_member f (p.link_server l) ms ≡ true))
     × AreWritten f p link ms older
 
 -- A link protects a read: it is OK, in the read's epoch, of the read's partition, and its server is a member.
 abbrev pub protects : Topology → Placement → (ℕ → Link) → List ℕ → ℕ → Went → Bool
-protects f p link ms q g = is_ok (link g.link).status && (eqb g.epoch (link g.link).epoch && (eqb (p.of g.link) q && has_member f (p.at g.link) ms))
+protects f p link ms q g = is_ok (link g.link).status && (eqb g.epoch (link g.link).epoch && (eqb (p.link_partition g.link) q && has_member f (p.link_server g.link) ms))
 
 abbrev pub one_protects : Topology → Placement → (ℕ → Link) → List ℕ → ℕ → List Went → Bool
 one_protects f p link ms q [] = false
@@ -277,7 +277,7 @@ are_protected f p link ms (Write q keys rows links ∷ older) = are_protected f 
 -- The notes of a transaction are what it was told, and what they name was sent.
 pub record AreNoted (f : Topology) (p : Placement) (v : Front) (x : ℕ) (ms : List ℕ) (notes : List Note) : Type 0 where
   pub sent : notes_sent notes (v.sent x) ≡ true
-  pub told : (l c : ℕ) → is_member c ms ≡ true → f.home c ≡ p.at l → IsTold p l c notes (done_on c (v.core.transaction x).log)
+  pub told : (l c : ℕ) → is_member c ms ≡ true → f.home c ≡ p.link_server l → IsTold p l c notes (done_on c (v.core.transaction x).log)
 
 -- A transaction of statements may be decided. (That its boot is the present one is `ready`: who is live was drawn in this boot.)
 pub record MayDecide (f : Topology) (p : Placement) (v : Front) (x : ℕ) (ms : List ℕ) (notes : List Note) : Type 0 where
@@ -304,11 +304,11 @@ is_put (keys ∷ more) k = is_in_one keys k || is_put more k
 
 abbrev pub puts_onto : Placement → CopyBatch → List (List Interval) → List Note → List Note
 puts_onto p b [] notes = notes
-puts_onto p b (keys ∷ more) notes = Write (p.of b.target.link) keys b.rows (b.target ∷ []) ∷ puts_onto p b more notes
+puts_onto p b (keys ∷ more) notes = Write (p.link_partition b.target.link) keys b.rows (b.target ∷ []) ∷ puts_onto p b more notes
 
 -- What a batch notes: a read of the source, a clear of the destination, and the puts.
 abbrev pub copy_notes : Placement → CopyBatch → List Note
-copy_notes p b = Write (p.of b.target.link) (b.keys ∷ []) (λ k. None) (b.target ∷ []) ∷ Read (p.of b.source.link) (b.keys ∷ []) (λ t. t) b.rows (b.source ∷ []) ∷ []
+copy_notes p b = Write (p.link_partition b.target.link) (b.keys ∷ []) (λ k. None) (b.target ∷ []) ∷ Read (p.link_partition b.source.link) (b.keys ∷ []) (λ t. t) b.rows (b.source ∷ []) ∷ []
 
 abbrev pub batch_notes : Placement → CopyBatch → List Note
 batch_notes p b = puts_onto p b b.puts (copy_notes p b)
@@ -325,16 +325,16 @@ comes_to (m ∷ ms) l e k = (eqb m.link l && (eqb m.epoch e && is_below k m.upto
 abbrev pub EndsAt : Placement → CopyBatch → Cursor → Type 0
 EndsAt p b Nothing = ⊥
 EndsAt p b (Up_to c) = c ≡ b.keys.to
-EndsAt p b All = (k : ℕ) → p.partition k ≡ p.of b.target.link → leb k b.keys.to ≡ true
+EndsAt p b All = (k : ℕ) → p.key_partition k ≡ p.link_partition b.target.link → leb k b.keys.to ≡ true
 
 -- A batch may be decided: the source is OK in the epoch of its scan, the destination RECOVERY in the epoch in which the batch began,
 -- and both servers are members. It begins at the least key, or where a decided batch of this epoch ended or below.
 pub record MayCopy (f : Topology) (p : Placement) (v : Front) (x : ℕ) (ms : List ℕ) (b : CopyBatch) : Type 0 where
   pub ready : may_decide f v.core x ms ≡ true
   pub noted : AreNoted f p v x ms (batch_notes p b)
-  pub same : p.of b.source.link ≡ p.of b.target.link
-  pub source : protects f p v.link ms (p.of b.source.link) b.source ≡ true
-  pub target : (is_recovery (v.link b.target.link).status && (eqb b.target.epoch (v.link b.target.link).epoch && has_member f (p.at b.target.link) ms)) ≡ true
+  pub same : p.link_partition b.source.link ≡ p.link_partition b.target.link
+  pub source : protects f p v.link ms (p.link_partition b.source.link) b.source ≡ true
+  pub target : (is_recovery (v.link b.target.link).status && (eqb b.target.epoch (v.link b.target.link).epoch && has_member f (p.link_server b.target.link) ms)) ≡ true
   pub begins : (eqb b.keys.from 0 || comes_to v.marks b.target.link b.target.epoch b.keys.from) ≡ true
   pub ends : EndsAt p b b.upto
   pub put : (k : ℕ) → is_put b.puts k ≡ false → is_within b.keys k ≡ true → b.rows k ≡ None
@@ -374,7 +374,7 @@ is_free (Reopens found) = false
 -- Each of these that went to a link of the server went in an epoch that is past.
 abbrev pub all_past : Placement → (ℕ → Link) → ℕ → List Went → Bool
 all_past p link s [] = true
-all_past p link s (g ∷ gs) = (not (eqb (p.at g.link) s) || not (eqb g.epoch (link g.link).epoch)) && all_past p link s gs
+all_past p link s (g ∷ gs) = (not (eqb (p.link_server g.link) s) || not (eqb g.epoch (link g.link).epoch)) && all_past p link s gs
 
 -- The transaction's present connection to the server is this one.
 abbrev pub is_line : Topology → Front → ℕ → Bool
@@ -414,8 +414,8 @@ pub data Next (f : Topology) (p : Placement) (v : Front) : Front → Type 0 wher
   Opens : (c x : ℕ) → may_use v.core c x ≡ true → all_past p v.link (f.home c) (v.sent x) ≡ true
       → Next f p v (record v { core = happens f v.core (Uses c x); line = set v.line x (set (v.line x) (f.home c) (Some c)) })
   -- a scan or a change goes to a link on the present connection
-  Scans : (c : ℕ) (fp : Footprint) → may_ask f v.core c (Scan fp) ≡ true → is_line f v c ≡ true → p.at fp.table ≡ f.home c → Next f p v (sends_to f v c (Scan fp) fp.table)
-  Changes : (c : ℕ) (fp : Footprint) (rows : Table) → may_ask f v.core c (Change fp rows) ≡ true → is_line f v c ≡ true → p.at fp.table ≡ f.home c → Next f p v (sends_to f v c (Change fp rows) fp.table)
+  Scans : (c : ℕ) (fp : Footprint) → may_ask f v.core c (Scan fp) ≡ true → is_line f v c ≡ true → p.link_server fp.table ≡ f.home c → Next f p v (sends_to f v c (Scan fp) fp.table)
+  Changes : (c : ℕ) (fp : Footprint) (rows : Table) → may_ask f v.core c (Change fp rows) ≡ true → is_line f v c ≡ true → p.link_server fp.table ≡ f.home c → Next f p v (sends_to f v c (Change fp rows) fp.table)
   -- PREPARE goes out on the present connection
   Prepares : (c x : ℕ) → may_ask f v.core c (Prepare x) ≡ true → is_line f v c ≡ true → Next f p v (record v { core = happens f v.core (Sends c (Prepare x)) })
   -- the front begins to write the record of a decision, of statements or of a copy's batch

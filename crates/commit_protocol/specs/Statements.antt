@@ -46,7 +46,7 @@ exec_tables p s t = changed p (s.changes (finds p t s.scans)) t
 -- ---- what a transaction's entries say
 
 -- A scan that was answered: what it found, and the links that gave exactly this.
-pub record Scanned_part : Type 0 where
+pub record ScannedPart : Type 0 where
   pub scan : PartScan
   pub found : Plain
   pub links : List Went
@@ -55,13 +55,13 @@ pub record Scanned_part : Type 0 where
 pub record Entry : Type 0 where
   pub statement : Statement
   pub answer : Answer
-  pub scanned : List Scanned_part
+  pub scanned : List ScannedPart
   pub went : ℕ → List Went
 
 abbrev pub found_by : Entry → List Plain
-found_by e = map (λ (s : Scanned_part). s.found) e.scanned
+found_by e = map (λ (s : ScannedPart). s.found) e.scanned
 
-abbrev pub reads_onto : List Scanned_part → List Note → List Note
+abbrev pub reads_onto : List ScannedPart → List Note → List Note
 reads_onto [] notes = notes
 reads_onto (s ∷ ss) notes = reads_onto ss (Read s.scan.partition s.scan.keys s.scan.look s.found s.links ∷ notes)
 
@@ -76,7 +76,7 @@ notes_of (e ∷ older) = writes_onto e.went (e.statement.changes (found_by e)) (
 
 -- The statement was scanned whole, and was answered from what its scans found.
 pub record IsAnswered (e : Entry) : Type 0 where
-  pub scans : e.statement.scans ≡ map (λ (s : Scanned_part). s.scan) e.scanned
+  pub scans : e.statement.scans ≡ map (λ (s : ScannedPart). s.scan) e.scanned
   pub answer : e.answer ≡ e.statement.answer (found_by e)
 
 abbrev pub AreAnswered : List Entry → Type 0

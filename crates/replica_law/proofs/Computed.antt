@@ -62,8 +62,8 @@ first_written : AreWritten wires places front_ready.link (1 ∷ 2 ∷ []) first_
 first_written = (
   refl,
   (λ l e n. ⊎_elim
-      (λ (q : l ≡ 0). subst (λ m. (went_in m (front_ready.link m).epoch went_first ≡ true) × (has_member wires (places.at m) (1 ∷ 2 ∷ []) ≡ true)) (sym q) (refl, refl))
-      (λ (q : l ≡ 1). subst (λ m. (went_in m (front_ready.link m).epoch went_first ≡ true) × (has_member wires (places.at m) (1 ∷ 2 ∷ []) ≡ true)) (sym q) (refl, refl))
+      (λ (q : l ≡ 0). subst (λ m. (went_in m (front_ready.link m).epoch went_first ≡ true) × (has_member wires (places.link_server m) (1 ∷ 2 ∷ []) ≡ true)) (sym q) (refl, refl))
+      (λ (q : l ≡ 1). subst (λ m. (went_in m (front_ready.link m).epoch went_first ≡ true) × (has_member wires (places.link_server m) (1 ∷ 2 ∷ []) ≡ true)) (sym q) (refl, refl))
       (zero_or_one l OK OK n)),
   tt,
 )

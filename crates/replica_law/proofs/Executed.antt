@@ -2,13 +2,13 @@
 use Rattle.std.proofs.Common.{◌≡◌, ℕ, List, [], ◌∷◌, map, refl, sym, ap, ◌∙◌, subst, ap₂}
 use Rattle.commit_protocol.specs.Links.{Plain, Placement, Went, Note, plain_after, plain, IsPlainRun, IsPlainSerial}
 use Rattle.commit_protocol.specs.Links.Note.{Read, Write}
-use Rattle.commit_protocol.specs.Statements.{PartChange, finds, changed, Scanned_part, Entry, found_by, reads_onto, writes_onto, notes_of, AreAnswered, AllAnswered, tables_after, IsExecuted, tables_of, AreSerial}
+use Rattle.commit_protocol.specs.Statements.{PartChange, finds, changed, ScannedPart, Entry, found_by, reads_onto, writes_onto, notes_of, AreAnswered, AllAnswered, tables_after, IsExecuted, tables_of, AreSerial}
 
 after_writes : (p : Placement) (t : Plain) (went : ℕ → List Went) (changes : List PartChange) (notes : List Note) → plain_after p t (writes_onto went changes notes) ≡ changed p changes (plain_after p t notes)
 after_writes p t went [] notes = refl
 after_writes p t went (a ∷ more) notes = after_writes p t went more (Write a.partition a.keys a.rows (went a.partition) ∷ notes)
 
-after_reads : (p : Placement) (t : Plain) (ss : List Scanned_part) (notes : List Note) → plain_after p t (reads_onto ss notes) ≡ plain_after p t notes
+after_reads : (p : Placement) (t : Plain) (ss : List ScannedPart) (notes : List Note) → plain_after p t (reads_onto ss notes) ≡ plain_after p t notes
 after_reads p t [] notes = refl
 after_reads p t (s ∷ ss) notes = after_reads p t ss (Read s.scan.partition s.scan.keys s.scan.look s.found s.links ∷ notes)
 
@@ -17,8 +17,8 @@ run_writes p t went [] notes r = r
 run_writes p t went (a ∷ more) notes r = run_writes p t went more (Write a.partition a.keys a.rows (went a.partition) ∷ notes) r
 
 -- what the scans found is what they find on the tables as they were
-run_reads : (p : Placement) (t : Plain) (ss : List Scanned_part) (notes : List Note) → IsPlainRun p t (reads_onto ss notes)
-    → (map (λ (s : Scanned_part). s.found) ss ≡ finds p (plain_after p t notes) (map (λ (s : Scanned_part). s.scan) ss)) × IsPlainRun p t notes
+run_reads : (p : Placement) (t : Plain) (ss : List ScannedPart) (notes : List Note) → IsPlainRun p t (reads_onto ss notes)
+    → (map (λ (s : ScannedPart). s.found) ss ≡ finds p (plain_after p t notes) (map (λ (s : ScannedPart). s.scan) ss)) × IsPlainRun p t notes
 run_reads p t [] notes r = (refl, r)
 run_reads p t (s ∷ ss) notes r =
     let ih = run_reads p t ss (Read s.scan.partition s.scan.keys s.scan.look s.found s.links ∷ notes) r in

@@ -163,7 +163,7 @@ agreed_opens f p v c x past i = agreed_core f p v w (set v.line x (set (v.line x
     now : (y : ℕ) → ArePresent p v.link (v.line y) (w.transaction y).asked (v.sent y)
     now = still_present p v w (same_asked f v.core (Uses c x) refl) i.present
 
-agreed_sends : (f : Topology) (p : Placement) (v : Front) (c l : ℕ) (r : Request) → asks_prepare (Sends c r) ≡ false → is_line f v c ≡ true → p.at l ≡ f.home c → (v.core.transaction (v.core.connection c).xid).asked (f.home c) ≡ None → IsAgreed f p v
+agreed_sends : (f : Topology) (p : Placement) (v : Front) (c l : ℕ) (r : Request) → asks_prepare (Sends c r) ≡ false → is_line f v c ≡ true → p.link_server l ≡ f.home c → (v.core.transaction (v.core.connection c).xid).asked (f.home c) ≡ None → IsAgreed f p v
     → IsAgreed f p (sends_to f v c r l)
 agreed_sends f p v c l r other line here none i = agreed_core f p v w v.line (set v.sent x _) (sound_happens f v.core (Sends c r) i.sound) (same_book f v.core (Sends c r) refl)
     (λ y. set_cases (λ z (gs : List Went). ArePresent p v.link (v.line z) (w.transaction z).asked gs) v.sent x _ y
@@ -180,11 +180,11 @@ agreed_sends f p v c l r other line here none i = agreed_core f p v w v.line (se
     now : (y : ℕ) → ArePresent p v.link (v.line y) (w.transaction y).asked (v.sent y)
     now = still_present p v w (same_asked f v.core (Sends c r) other) i.present
 
-    on_line : v.line x (p.at l) ≡ Some c
+    on_line : v.line x (p.link_server l) ≡ Some c
     on_line = ap (v.line x) here ∙ is_at_from (v.line x (f.home c)) c line
 
-    unasked : (w.transaction x).asked (p.at l) ≡ None
-    unasked = same_asked f v.core (Sends c r) other x (p.at l) ∙ ap (v.core.transaction x).asked here ∙ none
+    unasked : (w.transaction x).asked (p.link_server l) ≡ None
+    unasked = same_asked f v.core (Sends c r) other x (p.link_server l) ∙ ap (v.core.transaction x).asked here ∙ none
 
 agreed_prepares : (f : Topology) (p : Placement) (v : Front) (c x : ℕ) → may_ask f v.core c (Prepare x) ≡ true → is_line f v c ≡ true → IsAgreed f p v → IsAgreed f p (record v { core = happens f v.core (Sends c (Prepare x)) })
 agreed_prepares f p v c x may line i = agreed_core f p v w v.line v.sent (sound_happens f v.core (Sends c (Prepare x)) i.sound) (same_book f v.core (Sends c (Prepare x)) refl) present i
@@ -217,7 +217,7 @@ written_now w x ms = record { number = x; log = (w.transaction x).log; members =
 
 -- who may be decided stands as a decision needs it
 standing : (f : Topology) (p : Placement) (v : Front) (x : ℕ) (ms : List ℕ) (notes : List Note) → may_decide f v.core x ms ≡ true → notes_sent notes (v.sent x) ≡ true
-    → ((l c : ℕ) → is_member c ms ≡ true → f.home c ≡ p.at l → IsTold p l c notes (done_on c (v.core.transaction x).log)) → IsAgreed f p v
+    → ((l c : ℕ) → is_member c ms ≡ true → f.home c ≡ p.link_server l → IsTold p l c notes (done_on c (v.core.transaction x).log)) → IsAgreed f p v
     → Standing f p v.link (v.line x) (v.core.transaction x) (v.sent x) v.core.history (written_now v.core x ms) notes
 standing f p v x ms notes may sent told i = record {
   ready = grind (arith, may);
@@ -337,7 +337,7 @@ agreed_link f p v l n none epoch less kept i = record {
   sound = i.sound;
   present = λ x. present_link p v.link (v.line x) (v.core.transaction x).asked l n (v.sent x) epoch (i.present x);
   holds = record {
-    good = λ j k. set_cases (λ g (m : Link). has_by v.marks g m m.status k ≡ true → p.partition k ≡ p.of g → decided_rows f (p.at g) v.core.history (at_link g k) ≡ plain p v.book k) v.link l n j
+    good = λ j k. set_cases (λ g (m : Link). has_by v.marks g m m.status k ≡ true → p.key_partition k ≡ p.link_partition g → decided_rows f (p.link_server g) v.core.history (at_link g k) ≡ plain p v.book k) v.link l n j
         (λ h e. i.holds.good l k (less k h) e)
         (λ ne. i.holds.good j k);
     serial = i.holds.serial;
@@ -434,5 +434,5 @@ pub agreed : (f : Topology) (p : Placement) (status : ℕ → Status) (v : Front
 agreed f p status v r = agreed_run f p (new_front status) v r (agreed_start f p status)
 
 -- what counts of a link is the plain tables' rows
-pub link_view : (f : Topology) (p : Placement) (v : Front) → IsAgreed f p v → (l k : ℕ) → has_key v l k ≡ true → p.partition k ≡ p.of l → view f v.core (p.at l) (at_link l k) ≡ plain p v.book k
-link_view f p v i l k h e = view_is f v.core i.sound.serial (p.at l) (at_link l k) ∙ i.holds.good l k h e
+pub link_view : (f : Topology) (p : Placement) (v : Front) → IsAgreed f p v → (l k : ℕ) → has_key v l k ≡ true → p.key_partition k ≡ p.link_partition l → view f v.core (p.link_server l) (at_link l k) ≡ plain p v.book k
+link_view f p v i l k h e = view_is f v.core i.sound.serial (p.link_server l) (at_link l k) ∙ i.holds.good l k h e

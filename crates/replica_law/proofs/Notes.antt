@@ -18,7 +18,7 @@ same_plain t u h = λ i k. h k i
 abbrev pub AllWent : Placement → ℕ → ℕ → List Note → Type 0
 AllWent p l c [] = Unit {0}
 AllWent p l c (Read q keys look found links ∷ older) = AllWent p l c older
-AllWent p l c (Write q keys rows links ∷ older) = (p.of l ≡ q → went_to l c links ≡ true) × (went_to l c links ≡ true → p.of l ≡ q) × AllWent p l c older
+AllWent p l c (Write q keys rows links ∷ older) = (p.link_partition l ≡ q → went_to l c links ≡ true) × (went_to l c links ≡ true → p.link_partition l ≡ q) × AllWent p l c older
 
 -- no write went there
 abbrev pub NoneWent : ℕ → ℕ → List Note → Type 0
@@ -30,20 +30,20 @@ NoneWent l c (Write q keys rows links ∷ older) = (went_to l c links ≡ false)
 abbrev pub NoneOf : Placement → ℕ → List Note → Type 0
 NoneOf p l [] = Unit {0}
 NoneOf p l (Read q keys look found links ∷ older) = NoneOf p l older
-NoneOf p l (Write q keys rows links ∷ older) = (p.of l ≢ q) × NoneOf p l older
+NoneOf p l (Write q keys rows links ∷ older) = (p.link_partition l ≢ q) × NoneOf p l older
 
-pub of_went : (p : Placement) (l c q : ℕ) (links : List Went) → all_of p q links ≡ true → went_to l c links ≡ true → p.of l ≡ q
+pub of_went : (p : Placement) (l c q : ℕ) (links : List Went) → all_of p q links ≡ true → went_to l c links ≡ true → p.link_partition l ≡ q
 of_went p l c q [] a w = cc
 of_went p l c q (g ∷ gs) a w = ⊎_elim
-    (λ (t : (eqb g.link l && eqb g.connection c) ≡ true). let same : g.link ≡ l = grind (arith, nat_tests) in ap p.of (sym same) ∙ eqb-true (p.of g.link) q (grind arith))
+    (λ (t : (eqb g.link l && eqb g.connection c) ≡ true). let same : g.link ≡ l = grind (arith, nat_tests) in ap p.link_partition (sym same) ∙ eqb-true (p.link_partition g.link) q (grind arith))
     (λ (t : (eqb g.link l && eqb g.connection c) ≡ false). of_went p l c q gs (grind arith) (grind arith))
     (cases_Bool (eqb g.link l && eqb g.connection c))
 
 -- a write elsewhere leaves the partition's keys
-written_else : (p : Placement) (l q : ℕ) (keys : List Interval) (rows t : Plain) (k : ℕ) → p.of l ≢ q → p.partition k ≡ p.of l → written p q keys rows t k ≡ t k
+written_else : (p : Placement) (l q : ℕ) (keys : List Interval) (rows t : Plain) (k : ℕ) → p.link_partition l ≢ q → p.key_partition k ≡ p.link_partition l → written p q keys rows t k ≡ t k
 written_else p l q keys rows t k ne e = grind (arith, nat_tests)
 
-pub none_of_after : (p : Placement) (l : ℕ) (u : Plain) (notes : List Note) (k : ℕ) → NoneOf p l notes → p.partition k ≡ p.of l → plain_after p u notes k ≡ u k
+pub none_of_after : (p : Placement) (l : ℕ) (u : Plain) (notes : List Note) (k : ℕ) → NoneOf p l notes → p.key_partition k ≡ p.link_partition l → plain_after p u notes k ≡ u k
 none_of_after p l u [] k w e = refl
 none_of_after p l u (Read q keys look found links ∷ older) k w e = none_of_after p l u older k w e
 none_of_after p l u (Write q keys rows links ∷ older) k w e = written_else p l q keys rows (plain_after p u older) k w.0 e ∙ none_of_after p l u older k w.1 e
@@ -53,31 +53,31 @@ changes_other : (l : ℕ) (f : Footprint) (new t : Table) (k : ℕ) → f.table 
 changes_other l f new t k ne = grind (arith, nat_tests)
 
 -- what was done there and what the notes say change the partition's keys alike
-pub follows_after : (p : Placement) (l c : ℕ) (t : Table) (u : Plain) (notes : List Note) (ops : List Operation) (k : ℕ) → Follows p l c notes ops → AllWent p l c notes → p.partition k ≡ p.of l → t (at_link l k) ≡ u k
+pub follows_after : (p : Placement) (l c : ℕ) (t : Table) (u : Plain) (notes : List Note) (ops : List Operation) (k : ℕ) → Follows p l c notes ops → AllWent p l c notes → p.key_partition k ≡ p.link_partition l → t (at_link l k) ≡ u k
     → after t ops (at_link l k) ≡ plain_after p u notes k
 follows_after p l c t u notes ops k Ends w e h = h
 follows_after p l c t u notes ops k (Reads_pass rest) w e h = follows_after p l c t u _ ops k rest w e h
 follows_after p l c t u notes ops k (Writes_pass {q = q} {keys = keys} {rows = rows} {ns = ns} away rest) w e h =
-    let ne : p.of l ≢ q = λ s. cc (w.0 s, away) in
+    let ne : p.link_partition l ≢ q = λ s. cc (w.0 s, away) in
     follows_after p l c t u ns ops k rest w.2 e h ∙ sym (written_else p l q keys rows (plain_after p u ns) k ne e)
 follows_after p l c t u notes ops k (Writes_here {q = q} {keys = keys} {rows = rows} {ns = ns} {f = f} {new = new} {ops = older} here change rest) w e h =
     same (is_in_one keys k) refl (follows_after p l c t u ns older k rest w.2 e h)
   where
-    of : p.of l ≡ q
+    of : p.link_partition l ≡ q
     of = w.1 here
 
-    placed : eqb (p.partition k) q ≡ true
+    placed : eqb (p.key_partition k) q ≡ true
     placed = grind (arith, nat_tests, of, e)
 
     same : (b : Bool) → is_in_one keys k ≡ b → after t older (at_link l k) ≡ plain_after p u ns k
-        → cond (covers f (at_link l k)) (new (at_link l k)) (after t older (at_link l k)) ≡ cond (eqb (p.partition k) q && is_in_one keys k) (rows k) (plain_after p u ns k)
+        → cond (covers f (at_link l k)) (new (at_link l k)) (after t older (at_link l k)) ≡ cond (eqb (p.key_partition k) q && is_in_one keys k) (rows k) (plain_after p u ns k)
     same true s ih =
         let covered : covers f (at_link l k) ≡ true = (change k).0 ∙ s in
-        let inside : (eqb (p.partition k) q && is_in_one keys k) ≡ true = grind arith in
+        let inside : (eqb (p.key_partition k) q && is_in_one keys k) ≡ true = grind arith in
         ap (λ v. cond v (new (at_link l k)) (after t older (at_link l k))) covered ∙ (change k).1 s ∙ sym (ap (λ v. cond v (rows k) (plain_after p u ns k)) inside)
     same false s ih =
         let free : covers f (at_link l k) ≡ false = (change k).0 ∙ s in
-        let outside : (eqb (p.partition k) q && is_in_one keys k) ≡ false = grind arith in
+        let outside : (eqb (p.key_partition k) q && is_in_one keys k) ≡ false = grind arith in
         ap (λ v. cond v (new (at_link l k)) (after t older (at_link l k))) free ∙ ih ∙ sym (ap (λ v. cond v (rows k) (plain_after p u ns k)) outside)
 follows_after p l c t u notes ops k (Scans_pass rest) w e h = follows_after p l c t u notes _ k rest w e h
 follows_after p l c t u notes ops k (Changes_other {f = f} {new = new} {ops = older} ne rest) w e h = changes_other l f new (after t older) k ne ∙ follows_after p l c t u notes older k rest w e h
@@ -94,12 +94,12 @@ follows_none p l c t notes ops k (Changes_other {f = f} {new = new} {ops = older
 -- ---- reads
 
 -- what had been done there as a read was made, and what the read found
-pub record Found_there (p : Placement) (l c : ℕ) (t : Table) (q : ℕ) (keys : List Interval) (look : Plain → Plain) (found : Plain) (ns : List Note) : Type 0 where
+pub record FoundThere (p : Placement) (l c : ℕ) (t : Table) (q : ℕ) (keys : List Interval) (look : Plain → Plain) (found : Plain) (ns : List Note) : Type 0 where
   pub older : List Operation
   pub follows : Follows p l c ns older
   pub is : found ≡ look (seen_in p q keys (λ k. after t older (at_link l k)))
 
-pub found_there : (p : Placement) (l c : ℕ) (t : Table) (q : ℕ) (keys : List Interval) (look : Plain → Plain) (found : Plain) (ns : List Note) (ops : List Operation) → IsReadAt p l c q keys look found ns ops → AreRight t ops → Found_there p l c t q keys look found ns
+pub found_there : (p : Placement) (l c : ℕ) (t : Table) (q : ℕ) (keys : List Interval) (look : Plain → Plain) (found : Plain) (ns : List Note) (ops : List Operation) → IsReadAt p l c q keys look found ns ops → AreRight t ops → FoundThere p l c t q keys look found ns
 found_there p l c t q keys look found ns ops (Earlier {older = older} rest) r = found_there p l c t q keys look found ns older rest r.1
 found_there p l c t q keys look found ns ops (Here {f = f} {rows = rows} {older = older} scan before) r = record {
   older = older;

@@ -17,8 +17,8 @@ use Rattle.protocol_law.proofs.Serving.{served_rest}
 -- epoch is the link's; line and asked are the transaction's, by server
 pub record IsPresent (p : Placement) (epoch : ℕ) (line asked : ℕ → Option ℕ) (g : Went) : Type 0 where
   pub past : leb g.epoch epoch ≡ true
-  pub on_line : g.epoch ≡ epoch → line (p.at g.link) ≡ Some g.connection
-  pub asked_on : g.epoch ≡ epoch → (c : ℕ) → asked (p.at g.link) ≡ Some c → c ≡ g.connection
+  pub on_line : g.epoch ≡ epoch → line (p.link_server g.link) ≡ Some g.connection
+  pub asked_on : g.epoch ≡ epoch → (c : ℕ) → asked (p.link_server g.link) ≡ Some c → c ≡ g.connection
 
 abbrev pub ArePresent : Placement → (ℕ → Link) → (ℕ → Option ℕ) → (ℕ → Option ℕ) → List Went → Type 0
 ArePresent p link line asked [] = Unit {0}
@@ -26,24 +26,24 @@ ArePresent p link line asked (g ∷ gs) = IsPresent p (link g.link).epoch line a
 
 -- other servers asked, or the connection in use
 present_asked : (p : Placement) (link : ℕ → Link) (line asked new : ℕ → Option ℕ) (gs : List Went)
-    → ((g : Went) → IsPresent p (link g.link).epoch line asked g → g.epoch ≡ (link g.link).epoch → (c : ℕ) → new (p.at g.link) ≡ Some c → c ≡ g.connection) → ArePresent p link line asked gs → ArePresent p link line new gs
+    → ((g : Went) → IsPresent p (link g.link).epoch line asked g → g.epoch ≡ (link g.link).epoch → (c : ℕ) → new (p.link_server g.link) ≡ Some c → c ≡ g.connection) → ArePresent p link line asked gs → ArePresent p link line new gs
 present_asked p link line asked new [] h i = tt
 present_asked p link line asked new (g ∷ gs) h i = (record { past = i.0.past; on_line = i.0.on_line; asked_on = h g i.0 }, present_asked p link line asked new gs h i.1)
 
 pub present_same : (p : Placement) (link : ℕ → Link) (line asked new : ℕ → Option ℕ) (gs : List Went) → ((s : ℕ) → new s ≡ asked s) → ArePresent p link line asked gs → ArePresent p link line new gs
-present_same p link line asked new gs same i = present_asked p link line asked new gs (λ g j e c h. j.asked_on e c (sym (same (p.at g.link)) ∙ h)) i
+present_same p link line asked new gs same i = present_asked p link line asked new gs (λ g j e c h. j.asked_on e c (sym (same (p.link_server g.link)) ∙ h)) i
 
 -- PREPARE goes out on the present connection
 pub present_prepares : (p : Placement) (link : ℕ → Link) (line asked : ℕ → Option ℕ) (s c : ℕ) (gs : List Went) → line s ≡ Some c → ArePresent p link line asked gs → ArePresent p link line (set asked s (Some c)) gs
-present_prepares p link line asked s c gs here i = present_asked p link line asked (set asked s (Some c)) gs (λ g j e d h. now g j e d h (cases_Bool (eqb (p.at g.link) s))) i
+present_prepares p link line asked s c gs here i = present_asked p link line asked (set asked s (Some c)) gs (λ g j e d h. now g j e d h (cases_Bool (eqb (p.link_server g.link) s))) i
   where
-    now : (g : Went) → IsPresent p (link g.link).epoch line asked g → g.epoch ≡ (link g.link).epoch → (d : ℕ) → set asked s (Some c) (p.at g.link) ≡ Some d → (eqb (p.at g.link) s ≡ true) ⊎ (eqb (p.at g.link) s ≡ false) → d ≡ g.connection
+    now : (g : Went) → IsPresent p (link g.link).epoch line asked g → g.epoch ≡ (link g.link).epoch → (d : ℕ) → set asked s (Some c) (p.link_server g.link) ≡ Some d → (eqb (p.link_server g.link) s ≡ true) ⊎ (eqb (p.link_server g.link) s ≡ false) → d ≡ g.connection
     now g j e d h (inl q) =
         let there : line s ≡ Some g.connection = ap line (sym (eqb-true _ _ q)) ∙ j.on_line e in
-        let one : ◌≡◌ {A = Option ℕ} (Some c) (Some d) = sym (ap (λ b. cond b (Some c) (asked (p.at g.link))) q) ∙ h in
+        let one : ◌≡◌ {A = Option ℕ} (Some c) (Some d) = sym (ap (λ b. cond b (Some c) (asked (p.link_server g.link))) q) ∙ h in
         let two : ◌≡◌ {A = Option ℕ} (Some c) (Some g.connection) = sym here ∙ there in
         cc (one, two)
-    now g j e d h (inr q) = j.asked_on e d (sym (ap (λ b. cond b (Some c) (asked (p.at g.link))) q) ∙ h)
+    now g j e d h (inr q) = j.asked_on e d (sym (ap (λ b. cond b (Some c) (asked (p.link_server g.link))) q) ∙ h)
 
 -- another connection is taken into use: what went to the server went in epochs that are past
 pub present_opens : (p : Placement) (link : ℕ → Link) (line asked : ℕ → Option ℕ) (s c : ℕ) (gs : List Went) → all_past p link s gs ≡ true → ArePresent p link line asked gs → ArePresent p link (set line s (Some c)) asked gs
@@ -54,7 +54,7 @@ present_opens p link line asked s c (g ∷ gs) a i = (
 )
 
 -- something goes to a link now
-pub present_sends : (p : Placement) (link : ℕ → Link) (line asked : ℕ → Option ℕ) (l c : ℕ) (gs : List Went) → line (p.at l) ≡ Some c → asked (p.at l) ≡ None → ArePresent p link line asked gs
+pub present_sends : (p : Placement) (link : ℕ → Link) (line asked : ℕ → Option ℕ) (l c : ℕ) (gs : List Went) → line (p.link_server l) ≡ Some c → asked (p.link_server l) ≡ None → ArePresent p link line asked gs
     → ArePresent p link line asked (record { link = l; connection = c; epoch = (link l).epoch } ∷ gs)
 present_sends p link line asked l c gs here none i = (record { past = grind (arith, nat_tests); on_line = λ e. here; asked_on = λ e d h. cc (none, h) }, i)
 
@@ -76,7 +76,7 @@ present_link p link line asked l n (g ∷ gs) e i = (
 -- ---- which connection it was
 
 -- what was sent in the link's present epoch went on the connection that was asked to prepare
-sent_there : (p : Placement) (link : ℕ → Link) (line asked : ℕ → Option ℕ) (g : Went) (hs : List Went) (c : ℕ) → was_sent g hs ≡ true → g.epoch ≡ (link g.link).epoch → asked (p.at g.link) ≡ Some c → ArePresent p link line asked hs → c ≡ g.connection
+sent_there : (p : Placement) (link : ℕ → Link) (line asked : ℕ → Option ℕ) (g : Went) (hs : List Went) (c : ℕ) → was_sent g hs ≡ true → g.epoch ≡ (link g.link).epoch → asked (p.link_server g.link) ≡ Some c → ArePresent p link line asked hs → c ≡ g.connection
 sent_there p link line asked g [] c w e a i = cc
 sent_there p link line asked g (h ∷ hs) c w e a i = ⊎_elim
     (λ (t : (eqb g.link h.link && (eqb g.connection h.connection && leb g.epoch h.epoch)) ≡ true). here t)
@@ -89,15 +89,15 @@ sent_there p link line asked g (h ∷ hs) c w e a i = ⊎_elim
         let line : g.connection ≡ h.connection = grind (arith, nat_tests) in
         let epoch : (link g.link).epoch ≡ (link h.link).epoch = ap (λ z. (link z).epoch) same in
         let equal : h.epoch ≡ (link h.link).epoch = grind (arith, nat_tests, i.0.past) in
-        i.0.asked_on equal c (ap (λ z. asked (p.at z)) (sym same) ∙ a) ∙ sym line
+        i.0.asked_on equal c (ap (λ z. asked (p.link_server z)) (sym same) ∙ a) ∙ sym line
 
-pub present_went : (p : Placement) (link : ℕ → Link) (line asked : ℕ → Option ℕ) (l c : ℕ) (gs hs : List Went) → went_in l (link l).epoch gs ≡ true → all_sent gs hs ≡ true → asked (p.at l) ≡ Some c → ArePresent p link line asked hs → went_to l c gs ≡ true
+pub present_went : (p : Placement) (link : ℕ → Link) (line asked : ℕ → Option ℕ) (l c : ℕ) (gs hs : List Went) → went_in l (link l).epoch gs ≡ true → all_sent gs hs ≡ true → asked (p.link_server l) ≡ Some c → ArePresent p link line asked hs → went_to l c gs ≡ true
 present_went p link line asked l c [] hs w s a i = cc
 present_went p link line asked l c (g ∷ gs) hs w s a i = ⊎_elim
     (λ (t : (eqb g.link l && eqb g.epoch (link l).epoch) ≡ true).
     let same : g.link ≡ l = grind (arith, nat_tests) in
     let now : g.epoch ≡ (link g.link).epoch = grind (arith, nat_tests) ∙ ap (λ z. (link z).epoch) (sym same) in
-    let one : c ≡ g.connection = sent_there p link line asked g hs c (grind arith) now (ap (λ z. asked (p.at z)) same ∙ a) i in
+    let one : c ≡ g.connection = sent_there p link line asked g hs c (grind arith) now (ap (λ z. asked (p.link_server z)) same ∙ a) i in
     grind (arith, nat_tests, one, same))
     (λ (t : (eqb g.link l && eqb g.epoch (link l).epoch) ≡ false).
     let rest : went_to l c gs ≡ true = present_went p link line asked l c gs hs (grind arith) (grind arith) a i in
@@ -106,7 +106,7 @@ present_went p link line asked l c (g ∷ gs) hs w s a i = ⊎_elim
 
 -- a link that protects a read did so on the connection that was asked to prepare
 pub present_protects : (f : Topology) (p : Placement) (link : ℕ → Link) (ms : List ℕ) (q : ℕ) (gs : List Went) → one_protects f p link ms q gs ≡ true
-    → (l : ℕ) × (is_ok (link l).status ≡ true) × (p.of l ≡ q) × (has_member f (p.at l) ms ≡ true) × (went_in l (link l).epoch gs ≡ true)
+    → (l : ℕ) × (is_ok (link l).status ≡ true) × (p.link_partition l ≡ q) × (has_member f (p.link_server l) ms ≡ true) × (went_in l (link l).epoch gs ≡ true)
 present_protects f p link ms q [] h = cc
 present_protects f p link ms q (g ∷ gs) h = ⊎_elim
     (λ (t : protects f p link ms q g ≡ true). (g.link, grind arith, grind (arith, nat_tests), grind arith, grind (arith, nat_tests)))
@@ -201,7 +201,7 @@ same_asked f w (Reopens found) h = either found
 
 -- ---- the law
 
-pub names_connection : (p : Placement) (link : ℕ → Link) (line asked : ℕ → Option ℕ) (gs : List Went) (g : Went) (c : ℕ) → ArePresent p link line asked gs → IsAmong g gs → g.epoch ≡ (link g.link).epoch → asked (p.at g.link) ≡ Some c → g.connection ≡ c
+pub names_connection : (p : Placement) (link : ℕ → Link) (line asked : ℕ → Option ℕ) (gs : List Went) (g : Went) (c : ℕ) → ArePresent p link line asked gs → IsAmong g gs → g.epoch ≡ (link g.link).epoch → asked (p.link_server g.link) ≡ Some c → g.connection ≡ c
 names_connection p link line asked [] g c i a e h = absurd a
 names_connection p link line asked (n ∷ gs) g c i (inl q) e h = let here : IsPresent p (link g.link).epoch line asked g = subst (λ (z : Went). IsPresent p (link z.link).epoch line asked z) q i.0 in sym (here.asked_on e c h)
 names_connection p link line asked (n ∷ gs) g c i (inr a) e h = names_connection p link line asked gs g c i.1 a e h

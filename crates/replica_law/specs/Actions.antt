@@ -24,8 +24,8 @@ pub data Action : Type 0 where
 abbrev pub may : Topology → Placement → Front → Action → Bool
 may f p v (Core m) = is_free m
 may f p v (Open c x) = may_use v.core c x && all_past p v.link (f.home c) (v.sent x)
-may f p v (Scan_on c fp) = may_ask f v.core c (Scan fp) && (is_line f v c && eqb (p.at fp.table) (f.home c))
-may f p v (Change_on c fp rows) = may_ask f v.core c (Change fp rows) && (is_line f v c && eqb (p.at fp.table) (f.home c))
+may f p v (Scan_on c fp) = may_ask f v.core c (Scan fp) && (is_line f v c && eqb (p.link_server fp.table) (f.home c))
+may f p v (Change_on c fp rows) = may_ask f v.core c (Change fp rows) && (is_line f v c && eqb (p.link_server fp.table) (f.home c))
 may f p v (Prepare_on c x) = may_ask f v.core c (Prepare x) && is_line f v c
 may f p v Record_done = true
 may f p v (Reopen found) = true

@@ -21,7 +21,7 @@ abbrev pub wires : Topology
 wires = record { home = λ c. cond (eqb c 2) 1 0 }
 
 abbrev pub places : Placement
-places = record { partition = λ k. cond (leb k 10) 0 1; of = λ l. 0; at = λ l. l }
+places = record { key_partition = λ k. cond (leb k 10) 0 1; link_partition = λ l. 0; link_server = λ l. l }
 
 abbrev pub configured : ℕ → Status
 configured l = cond (eqb l 0) OK (cond (eqb l 1) OK NG)

@@ -24,9 +24,9 @@ ghost use Rattle.replica_law.specs.Examples.{wires, places, configured, first_no
 pub fn links_agree()
     ensures serial { (f : Topology) (p : Placement) (status : ℕ → Status) (v : Front) → Run f p (new_front status) v → IsPlainSerial p v.book }
     ensures whole { (f : Topology) (p : Placement) (status : ℕ → Status) (v : Front) (l k : ℕ) → Run f p (new_front status) v
-        → has_recorded v l k ≡ true → p.partition k ≡ p.of l → view f v.core (p.at l) (at_link l k) ≡ plain p v.book k }
+        → has_recorded v l k ≡ true → p.key_partition k ≡ p.link_partition l → view f v.core (p.link_server l) (at_link l k) ≡ plain p v.book k }
     ensures copied { (f : Topology) (p : Placement) (status : ℕ → Status) (v : Front) (l k : ℕ) → Run f p (new_front status) v
-        → has_key v l k ≡ true → p.partition k ≡ p.of l → view f v.core (p.at l) (at_link l k) ≡ plain p v.book k }
+        → has_key v l k ≡ true → p.key_partition k ≡ p.link_partition l → view f v.core (p.link_server l) (at_link l k) ≡ plain p v.book k }
 {}
 
 /// For any meaning of statements that is a function of what their scans find: where the decided transactions' notes are those
@@ -36,15 +36,15 @@ pub fn statements_are_serial()
     ensures answers { (f : Topology) (p : Placement) (status : ℕ → Status) (v : Front) (book : List (List Entry)) → Run f p (new_front status) v
         → v.book ≡ map notes_of book → AllAnswered book → AreSerial p book }
     ensures rows { (f : Topology) (p : Placement) (status : ℕ → Status) (v : Front) (book : List (List Entry)) (l k : ℕ) → Run f p (new_front status) v
-        → v.book ≡ map notes_of book → AllAnswered book → has_recorded v l k ≡ true → p.partition k ≡ p.of l
-        → view f v.core (p.at l) (at_link l k) ≡ tables_of p book k }
+        → v.book ≡ map notes_of book → AllAnswered book → has_recorded v l k ≡ true → p.key_partition k ≡ p.link_partition l
+        → view f v.core (p.link_server l) (at_link l k) ≡ tables_of p book k }
 {}
 
 /// What went to a link in the link's present epoch went on the connection on which that server was asked to prepare: so the
 /// tests by epochs and servers say which connection it was.
 pub fn epochs_name_connections()
     ensures { (f : Topology) (p : Placement) (status : ℕ → Status) (v : Front) (x c : ℕ) (g : Went) → Run f p (new_front status) v
-        → IsAmong g (v.sent x) → g.epoch ≡ (v.link g.link).epoch → (v.core.transaction x).asked (p.at g.link) ≡ Some c → g.connection ≡ c }
+        → IsAmong g (v.sent x) → g.epoch ≡ (v.link g.link).epoch → (v.core.transaction x).asked (p.link_server g.link) ≡ Some c → g.connection ≡ c }
 {}
 
 /// A run of each kind of move of the front, computed: a write to two links; one falls, rises and is copied to; its cursor is
