@@ -4,3 +4,4 @@ pub mod Agree
 pub mod Moves
 pub mod Executed
 pub mod Computed
+pub mod Core

@@ -12,7 +12,7 @@
 
 ghost use Rattle.std.specs.Prelude.{◌≡◌, ℕ, Bool, List, [], ◌∷◌, Option, Some, None, true, false, map};
 ghost use Rattle.commit_protocol.specs.Network.{Topology};
-ghost use Rattle.commit_protocol.specs.Protocol.{view};
+ghost use Rattle.commit_protocol.specs.Protocol.{Move, run, start, view};
 ghost use Rattle.commit_protocol.specs.Links.{Placement, Status, Front, Went, Run, new_front, at_link, has_key, has_recorded, plain, IsPlainSerial, IsAmong};
 ghost use Rattle.commit_protocol.specs.Links.Status.{OK};
 ghost use Rattle.commit_protocol.specs.Statements.{Entry, notes_of, AllAnswered, AreSerial, tables_of};
@@ -38,6 +38,12 @@ pub fn statements_are_serial()
     ensures rows { (f : Topology) (p : Placement) (status : ℕ → Status) (v : Front) (book : List (List Entry)) (l k : ℕ) → Run f p (new_front status) v
         → v.book ≡ map notes_of book → AllAnswered book → has_recorded v l k ≡ true → p.key_partition k ≡ p.link_partition l
         → view f v.core (p.link_server l) (at_link l k) ≡ tables_of p book k }
+{}
+
+/// What a front may come to is a run of the protocol: so the laws at each server hold of it.
+pub fn fronts_run_the_protocol()
+    ensures { (f : Topology) (p : Placement) (status : ℕ → Status) (v : Front) → Run f p (new_front status) v
+        → (ms : List Move) × (v.core ≡ run f ms start) }
 {}
 
 /// What went to a link in the link's present epoch went on the connection on which that server was asked to prepare: so the
