@@ -4,18 +4,20 @@ use Rattle.std.proofs.lemmas.Bool.Decides.{nat_tests}
 use Rattle.commit_protocol.specs.Rows.{is_within, is_in_one}
 use Rattle.commit_protocol.specs.Network.{Topology}
 use Rattle.commit_protocol.specs.Backend.Request.{Commit}
-use Rattle.commit_protocol.specs.Protocol.{is_member, has_member, done_on}
-use Rattle.commit_protocol.specs.Links.{Placement, Front, Status, is_ng, went_in, AreWritten, IsTold, is_put, MayDecide, MayCopy, Next, Run, new_front, batch_notes}
+use Rattle.commit_protocol.specs.Protocol.{is_member, has_member, done_on, happens}
+use Rattle.commit_protocol.specs.Protocol.Move.{Writes}
+use Rattle.commit_protocol.specs.Links.{Placement, Front, Link, Status, is_ng, went_in, AreWritten, IsTold, is_put, MayDecide, MayCopy, Next, Run, new_front, batch_notes}
 use Rattle.commit_protocol.specs.Links.Follows.{Ends, Reads_pass, Writes_pass, Writes_here, Scans_pass}
 use Rattle.commit_protocol.specs.Links.IsReadAt.{Here, Earlier}
 use Rattle.commit_protocol.specs.Links.Next.{Goes, Opens, Scans, Changes, Prepares, Decides, Copies, Is_recorded, Is_reopened, Falls, Rises, Moves_cursor, Completes}
 use Rattle.commit_protocol.specs.Links.Run.{Stays, Steps}
-use Rattle.commit_protocol.specs.Links.Cursor.{All}
+use Rattle.commit_protocol.specs.Links.Cursor.{Nothing, All}
+use Rattle.commit_protocol.specs.Links.Matter.{Statements}
 use Rattle.commit_protocol.specs.Links.Status.{OK, NG}
 use Rattle.protocol_law.proofs.Traffic.{is_none_from}
 use Rattle.replica_law.specs.Actions.{Action, may, acted, may_all, acted_all}
 use Rattle.replica_law.specs.Actions.Action.{Core, Open, Scan_on, Change_on, Prepare_on, Record_done, Reopen, Fall, Rise}
-use Rattle.replica_law.specs.Examples.{wires, places, configured, one_key, all_keys, writes_both, front_ready, went_first, first_notes, front_writing, copies_over, front_copied, rows_copied, done_at_source, done_at_target, one_batch, front_copying, front_booked, front_whole, front_reopened, asks_both}
+use Rattle.replica_law.specs.Examples.{wires, places, configured, one_key, all_keys, writes_both, front_ready, went_first, first_notes, front_writing, copies_over, front_copied, rows_copied, done_at_source, done_at_target, one_batch, front_copying, front_booked, front_whole, front_reopened, asks_both, loses_server, front_alone, went_alone, alone_notes, front_decided_alone}
 
 -- ---- computed moves are moves
 
@@ -132,3 +134,29 @@ whole_run = Steps (Steps booked_run (Moves_cursor 1 All refl refl (inl refl))) (
 
 pub reopened_run : (found : Bool) → Run wires places (new_front configured) (front_reopened found)
 reopened_run found = run_acted wires places (new_front configured) front_writing (Reopen found ∷ []) refl (Steps ready_run (Decides 7 (1 ∷ 2 ∷ []) first_notes first_decides))
+
+-- ---- a session that goes on after it lost a server
+
+just_one : (c : ℕ) → is_member c (1 ∷ []) ≡ true → c ≡ 1
+just_one c h = grind (arith, nat_tests)
+
+alone_told : (l c : ℕ) → is_member c (1 ∷ []) ≡ true → wires.home c ≡ l → IsTold places l c alone_notes (done_on c (front_alone.core.transaction 7).log)
+alone_told l c m h = subst (λ d. wires.home d ≡ l → IsTold places l d alone_notes (done_on d (front_alone.core.transaction 7).log)) (sym (just_one c m))
+    (λ (q : 0 ≡ l). subst (λ n. IsTold places n 1 alone_notes (done_on 1 (front_alone.core.transaction 7).log)) q
+    (record { changes = Writes_here refl (λ k. (refl, λ h. refl)) (Reads_pass (Scans_pass Ends)); reads = ((λ w. Earlier (Here ((λ k h. h), refl) Ends)), tt) })) h
+
+only_zero : (l : ℕ) → is_ng (front_alone.link l).status ≡ false → l ≡ 0
+only_zero l h = go (eqb l 1) (eqb l 0) refl refl h
+  where
+    go : (a b : Bool) → eqb l 1 ≡ a → eqb l 0 ≡ b → is_ng (cond {A = Link} a (record { status = NG; epoch = 1; cursor = Nothing }) (record { status = cond b OK (cond a OK NG); epoch = 0; cursor = Nothing })).status ≡ false → l ≡ 0
+    go true b e g n = cc
+    go false true e g n = eqb-true l 0 g
+    go false false e g n = cc
+
+alone_written : AreWritten wires places front_alone.link (1 ∷ []) alone_notes
+alone_written = (refl, (λ l e n. subst (λ m. (went_in m (front_alone.link m).epoch went_alone ≡ true) × (has_member wires (places.link_server m) (1 ∷ []) ≡ true)) (sym (only_zero l n)) (refl, refl)), tt)
+
+pub alone_run : Run wires places (new_front configured) front_decided_alone
+alone_run = run_acted wires places (new_front configured) (record front_alone { core = happens wires front_alone.core (Writes 7 (1 ∷ [])); writing = Some (Statements alone_notes) }) (Record_done ∷ []) refl
+    (Steps (run_acted wires places (new_front configured) (new_front configured) loses_server refl Stays)
+    (Decides 7 (1 ∷ []) alone_notes (record { ready = refl; noted = record { sent = refl; told = alone_told }; writes = alone_written; reads = refl })))

@@ -6,7 +6,7 @@ use Rattle.commit_protocol.specs.Backend.{Request, point}
 use Rattle.commit_protocol.specs.Backend.Request.{Start, End, Commit}
 use Rattle.commit_protocol.specs.Network.{Topology}
 use Rattle.commit_protocol.specs.Protocol.{happens}
-use Rattle.commit_protocol.specs.Protocol.Move.{Draws, Dials, Sends, Delivers, Reads, Writes}
+use Rattle.commit_protocol.specs.Protocol.Move.{Draws, Dials, Sends, Delivers, Reads, Breaks, Hangup_seen, Writes}
 use Rattle.commit_protocol.specs.Links.{Plain, Placement, Went, Note, Status, Front, CopyBatch, at_link, seen_in, batch_notes, batch_mark, with_link, new_front}
 use Rattle.commit_protocol.specs.Links.Note.{Read, Write}
 use Rattle.commit_protocol.specs.Links.Status.{OK, NG}
@@ -16,9 +16,9 @@ use Rattle.commit_protocol.specs.Statements.{Statement, Entry}
 use Rattle.replica_law.specs.Actions.{Action, acted_all}
 use Rattle.replica_law.specs.Actions.Action.{Core, Open, Scan_on, Change_on, Prepare_on, Record_done, Reopen, Fall, Rise}
 
--- Connection 1 leads to server 0, connection 2 to server 1; keys up to 10 are in partition 0; links 0 and 1 have it.
+-- Connection 1 leads to server 0, connections 2 and 4 to server 1; keys up to 10 are in partition 0; links 0 and 1 have it.
 abbrev pub wires : Topology
-wires = record { home = λ c. cond (eqb c 2) 1 0 }
+wires = record { home = λ c. cond (eqb c 2) 1 (cond (eqb c 4) 1 0) }
 
 abbrev pub places : Placement
 places = record { key_partition = λ k. cond (leb k 10) 0 1; link_partition = λ l. 0; link_server = λ l. l }
@@ -143,3 +143,26 @@ one_entry = record {
 -- What the decided transactions were, the newest first: a copy's batch, and the statement.
 abbrev pub two_decided : List (List Entry)
 two_decided = [] ∷ (one_entry ∷ []) ∷ []
+
+-- ---- a session that goes on after it lost a server
+
+-- Transaction 7 has scanned both links as connection 2 breaks. Link 1 goes to NG, and a later statement dials its server again.
+abbrev pub loses_server : List Action
+loses_server = Core (Draws 7) ∷ Core (Dials 1) ∷ Core (Dials 2) ∷ Open 1 7 ∷ Open 2 7 ∷ asks_both (Start 7)
+    ++ Scan_on 1 (footprint_at 0 one_key true) ∷ Scan_on 2 (footprint_at 1 one_key true) ∷ both_read
+    ++ Core (Breaks 2) ∷ Fall 1 ∷ Core (Hangup_seen 2) ∷ Core (Dials 4) ∷ Open 4 7 ∷ Core (Sends 4 (Start 7)) ∷ Core (Delivers 4) ∷ Core (Reads 4)
+    ∷ Change_on 1 (footprint_at 0 one_key true) (λ k. Some 5) ∷ Core (Delivers 1) ∷ Core (Reads 1)
+    ∷ Core (Sends 1 (End 7)) ∷ Core (Delivers 1) ∷ Core (Reads 1) ∷ Prepare_on 1 7 ∷ Core (Delivers 1) ∷ Core (Reads 1) ∷ []
+
+abbrev pub front_alone : Front
+front_alone = acted_all wires (new_front configured) loses_server
+
+-- Its write went to link 0 alone, the one that isn't NG.
+abbrev pub went_alone : List Went
+went_alone = record { link = 0; connection = 1; epoch = 0 } ∷ []
+
+abbrev pub alone_notes : List Note
+alone_notes = Write 0 one_key five went_alone ∷ Read 0 one_key (λ t. t) nothing_found went_first ∷ []
+
+abbrev pub front_decided_alone : Front
+front_decided_alone = acted_all wires (record front_alone { core = happens wires front_alone.core (Writes 7 (1 ∷ [])); writing = Some (Statements alone_notes) }) (Record_done ∷ [])

@@ -14,9 +14,9 @@ ghost use Rattle.std.specs.Prelude.{◌≡◌, ℕ, Bool, List, [], ◌∷◌, O
 ghost use Rattle.commit_protocol.specs.Network.{Topology};
 ghost use Rattle.commit_protocol.specs.Protocol.{Move, run, start, view};
 ghost use Rattle.commit_protocol.specs.Links.{Placement, Status, Front, Went, Run, new_front, at_link, has_key, has_recorded, plain, IsPlainSerial, IsAmong};
-ghost use Rattle.commit_protocol.specs.Links.Status.{OK};
+ghost use Rattle.commit_protocol.specs.Links.Status.{OK, NG};
 ghost use Rattle.commit_protocol.specs.Statements.{Entry, notes_of, AllAnswered, AreSerial, tables_of};
-ghost use Rattle.replica_law.specs.Examples.{wires, places, configured, first_notes, front_whole, front_reopened, two_decided};
+ghost use Rattle.replica_law.specs.Examples.{wires, places, configured, first_notes, front_whole, front_reopened, two_decided, front_decided_alone};
 
 /// The decided transactions, in the order of their decisions, are a run of the plain tables, each of whose reads found what
 /// these gave then; and what counts of each link is the plain tables' rows of its partition: each key of an OK link, and those
@@ -69,4 +69,13 @@ pub fn one_is_reopened()
     ensures run { (found : Bool) → Run wires places (new_front configured) (front_reopened found) }
     ensures found { (front_reopened true).book ≡ first_notes ∷ [] }
     ensures lost { (front_reopened false).book ≡ [] }
+{}
+
+/// A session goes on after it lost a server: the link there goes to NG, its server is dialled again, and the write goes to the
+/// other link alone.
+pub fn one_goes_on()
+    ensures run { Run wires places (new_front configured) front_decided_alone }
+    ensures status { (front_decided_alone.link 1).status ≡ NG }
+    ensures row { view wires front_decided_alone.core 0 (at_link 0 3) ≡ Some 5 }
+    ensures table { plain places front_decided_alone.book 3 ≡ Some 5 }
 {}
