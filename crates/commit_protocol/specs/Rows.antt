@@ -7,6 +7,10 @@ use Rattle.std.specs.Prelude.{◌≡◌, ℕ, Bool, true, false, cond, ◌&&◌,
 abbrev pub Row : Type 0
 Row = ℕ
 
+-- A row for each number, as examples have them.
+abbrev pub row : ℕ → Row
+row n = n
+
 -- A row's place at a server: its table there, and its key.
 pub record Key : Type 0 where
   pub table : ℕ

@@ -1,6 +1,6 @@
 -- Runs that are computed, one for each kind of move, so that no guard is unmeetable.
 use Rattle.std.specs.Prelude.{ℕ, Bool, true, false, cond, eqb, List, [], ◌∷◌, ◌++◌, map, length, Option, Some, None}
-use Rattle.commit_protocol.specs.Rows.{Key, Row, Footprint}
+use Rattle.commit_protocol.specs.Rows.{Key, Row, row, Footprint}
 use Rattle.commit_protocol.specs.Backend.{Branch, Request, find, point, put_row}
 use Rattle.commit_protocol.specs.Backend.Request.{Start, Scan, End, Prepare, Commit, Rollback, Recover}
 use Rattle.commit_protocol.specs.Network.{Topology}
@@ -26,15 +26,15 @@ abbrev pub begins_on : (x c : ℕ) → List Move
 begins_on x c = Draws x ∷ Dials c ∷ Uses c x ∷ asks_and_reads c (Start x)
 
 -- It reads a key and writes it.
-abbrev pub writes_key : (c k : ℕ) (row : Row) → List Move
-writes_key c k row = asks_and_reads c (Scan (one_key k)) ++ asks_and_reads c (put_row (at_key k) row)
+abbrev pub writes_key : (c k : ℕ) (new : Row) → List Move
+writes_key c k new = asks_and_reads c (Scan (one_key k)) ++ asks_and_reads c (put_row (at_key k) new)
 
 abbrev pub prepares : (x c : ℕ) → List Move
 prepares x c = asks_and_reads c (End x) ++ asks_and_reads c (Prepare x)
 
 -- Transaction 7 writes row 5 at key 3 of server 0 and is prepared there.
 abbrev pub prepared_once : List Move
-prepared_once = begins_on 7 1 ++ writes_key 1 3 5 ++ prepares 7 1
+prepared_once = begins_on 7 1 ++ writes_key 1 3 (row 5) ++ prepares 7 1
 
 -- Its decision is recorded, and then COMMIT goes out.
 abbrev pub commits_once : List Move
@@ -82,7 +82,7 @@ gives_up = prepared_once ++ Gives_up 7 ∷ asks_and_reads 1 (Rollback 7)
 
 -- Two servers, one transaction: each is a member.
 abbrev pub spans_servers : List Move
-spans_servers = prepared_once ++ Dials 2 ∷ Uses 2 7 ∷ asks_and_reads 2 (Start 7) ++ writes_key 2 4 6 ++ prepares 7 2 ++ Writes 7 (1 ∷ 2 ∷ []) ∷ Recorded ∷ Delivers 1 ∷ asks_and_reads 2 (Commit 7)
+spans_servers = prepared_once ++ Dials 2 ∷ Uses 2 7 ∷ asks_and_reads 2 (Start 7) ++ writes_key 2 4 (row 6) ++ prepares 7 2 ++ Writes 7 (1 ∷ 2 ∷ []) ∷ Recorded ∷ Delivers 1 ∷ asks_and_reads 2 (Commit 7)
 
 -- A server refuses a scan for want of memory.
 abbrev pub refuses_scan : List Move
@@ -90,7 +90,7 @@ refuses_scan = begins_on 7 1 ++ Sends 1 (Scan (one_key 3)) ∷ Refuses 1 ∷ []
 
 -- Its disk faults as it prepares: the step is kept, or lost with the branch.
 abbrev pub faults_preparing : Bool → List Move
-faults_preparing found = begins_on 7 1 ++ writes_key 1 3 5 ++ asks_and_reads 1 (End 7) ++ Sends 1 (Prepare 7) ∷ Faults 1 found ∷ []
+faults_preparing found = begins_on 7 1 ++ writes_key 1 3 (row 5) ++ asks_and_reads 1 (End 7) ++ Sends 1 (Prepare 7) ∷ Faults 1 found ∷ []
 
 -- Another connection asks what is prepared.
 abbrev pub recovers : List Move

@@ -11,7 +11,7 @@
 #![tactic(auto)]
 
 ghost use Rattle.std.specs.Prelude.{◌≡◌, ◌≢◌, ℕ, List, [], ◌∷◌, Option, Some, None, true, false};
-ghost use Rattle.commit_protocol.specs.Rows.{Key, AreApart, touches, owns, holds};
+ghost use Rattle.commit_protocol.specs.Rows.{Key, row, AreApart, touches, owns, holds};
 ghost use Rattle.commit_protocol.specs.Backend.{Branch, Request, Call, Stage, calls, new_server, find, effect, served, hung_up, stopped};
 ghost use Rattle.commit_protocol.specs.Backend.Effect.{Drop, Install};
 ghost use Rattle.commit_protocol.specs.Backend.Stage.{Prepared};
@@ -88,7 +88,7 @@ pub fn servers_are_serial()
 /// A transaction reads and writes a key, is decided and installed.
 pub fn one_commits()
     ensures decided { decided_at two_servers (after_run commits_once).history 7 0 ≡ true }
-    ensures row { row_at commits_once 0 3 ≡ Some 5 }
+    ensures row { row_at commits_once 0 3 ≡ Some (row 5) }
     ensures gone { branch_of commits_once 7 ≡ None }
 {}
 
@@ -122,7 +122,7 @@ pub fn one_stops()
 /// A record in progress at a stop of the front is found, and its branch is committed by settling; or it is lost, and its branch
 /// is rolled back. Before the log is opened nothing is settled.
 pub fn one_reopens()
-    ensures found { row_at settles_commit 0 3 ≡ Some 5 }
+    ensures found { row_at settles_commit 0 3 ≡ Some (row 5) }
     ensures lost { row_at settles_rollback 0 3 ≡ None }
     ensures gone { is_there (branch_of settles_rollback 7) ≡ false }
     ensures waits { is_there (branch_of settles_too_early 7) ≡ true }
@@ -132,6 +132,6 @@ pub fn one_reopens()
 pub fn others_end()
     ensures nothing { decided_numbers decides_nothing ≡ 7 ∷ [] }
     ensures given_up { is_there (branch_of gives_up 7) ≡ false }
-    ensures spans { row_at spans_servers 1 4 ≡ Some 6 }
+    ensures spans { row_at spans_servers 1 4 ≡ Some (row 6) }
     ensures both { decided_at two_servers (after_run spans_servers).history 7 0 ≡ true }
 {}

@@ -1,7 +1,7 @@
 -- Computed runs are runs, and the example is one.
 use Rattle.std.proofs.Common.{◌≡◌, ℕ, Bool, true, false, cond, ◌||◌, eqb, List, [], ◌∷◌, Option, Some, None, refl, sym, ap, subst, arith, ◌⊎◌, inl, ⊎_elim, eqb-true}
 use Rattle.std.proofs.lemmas.Bool.Decides.{nat_tests}
-use Rattle.commit_protocol.specs.Rows.{is_within, is_in_one}
+use Rattle.commit_protocol.specs.Rows.{Row, row, is_within, is_in_one}
 use Rattle.commit_protocol.specs.Network.{Topology}
 use Rattle.commit_protocol.specs.Backend.Request.{Commit}
 use Rattle.commit_protocol.specs.Protocol.{is_member, has_member, done_on, happens}
@@ -76,8 +76,8 @@ first_decides = record { ready = refl; noted = record { sent = refl; told = firs
 copied_run : Run wires places (new_front configured) front_copied
 copied_run = run_acted wires places (new_front configured) front_writing copies_over refl (Steps ready_run (Decides 7 (1 ∷ 2 ∷ []) first_notes first_decides))
 
-at_three : (k : ℕ) → is_in_one one_key k ≡ true → Some 5 ≡ rows_copied k
-at_three k h = let e : k ≡ 3 = grind (arith, nat_tests, h) in subst (λ n. Some 5 ≡ rows_copied n) (sym e) refl
+at_three : (k : ℕ) → is_in_one one_key k ≡ true → Some (row 5) ≡ rows_copied k
+at_three k h = let e : k ≡ 3 = grind (arith, nat_tests, h) in subst (λ n. Some (row 5) ≡ rows_copied n) (sym e) refl
 
 source_told : IsTold places 0 1 (batch_notes places one_batch) done_at_source
 source_told = record { changes = Writes_pass refl (Writes_pass refl (Reads_pass (Scans_pass Ends))); reads = ((λ w. Here ((λ k h. h), refl) Ends), tt) }
@@ -97,11 +97,11 @@ batch_told = both_told (λ l c. IsTold places l c (batch_notes places one_batch)
     (subst (λ ops. IsTold places 1 2 (batch_notes places one_batch) ops) at_target target_told)
 
 -- where no row is put, there is none
-not_three : (b : Bool) (k : ℕ) → is_in_one one_key k ≡ b → b ≡ false → cond {A = Option ℕ} (is_in_one one_key k) (Some 5) None ≡ None
+not_three : (b : Bool) (k : ℕ) → is_in_one one_key k ≡ b → b ≡ false → cond {A = Option Row} (is_in_one one_key k) (Some (row 5)) None ≡ None
 not_three true k e h = cc
-not_three false k e h = ap (λ v. cond {A = Option ℕ} v (Some 5) None) e
+not_three false k e h = ap (λ v. cond {A = Option Row} v (Some (row 5)) None) e
 
-cond_none : (a b : Bool) (o : Option ℕ) → o ≡ None → cond a (cond b o None) None ≡ None
+cond_none : (a b : Bool) (o : Option Row) → o ≡ None → cond a (cond b o None) None ≡ None
 cond_none true true o h = h
 cond_none true false o h = refl
 cond_none false b o h = refl

@@ -1,6 +1,6 @@
 -- One partition on two links, a write, a fall, and a copy: a run of each kind of move.
 use Rattle.std.specs.Prelude.{ℕ, Bool, true, false, cond, eqb, leb, List, [], ◌∷◌, ◌++◌, Some, None}
-use Rattle.commit_protocol.specs.Rows.{Table, Interval, Footprint, Operation, covers, restricted}
+use Rattle.commit_protocol.specs.Rows.{row, Table, Interval, Footprint, Operation, covers, restricted}
 use Rattle.commit_protocol.specs.Rows.Operation.{Scanned, Changed}
 use Rattle.commit_protocol.specs.Backend.{Request, point}
 use Rattle.commit_protocol.specs.Backend.Request.{Start, End, Commit}
@@ -33,7 +33,7 @@ abbrev pub all_keys : Interval
 all_keys = record { from = 0; to = 10 }
 
 abbrev pub five : Plain
-five = λ k. Some 5
+five = λ k. Some (row 5)
 
 abbrev pub footprint_at : ℕ → List Interval → Bool → Footprint
 footprint_at l keys exclusive = record { table = l; keys = keys; exclusive = exclusive }
@@ -51,7 +51,7 @@ prepares_both x = asks_both (End x) ++ Prepare_on 1 x ∷ Prepare_on 2 x ∷ bot
 abbrev pub writes_both : List Action
 writes_both = Core (Draws 7) ∷ Core (Dials 1) ∷ Core (Dials 2) ∷ Open 1 7 ∷ Open 2 7 ∷ asks_both (Start 7)
     ++ Scan_on 1 (footprint_at 0 one_key true) ∷ Scan_on 2 (footprint_at 1 one_key true) ∷ both_read
-    ++ Change_on 1 (footprint_at 0 one_key true) (λ k. Some 5) ∷ Change_on 2 (footprint_at 1 one_key true) (λ k. Some 5) ∷ both_read
+    ++ Change_on 1 (footprint_at 0 one_key true) (λ k. Some (row 5)) ∷ Change_on 2 (footprint_at 1 one_key true) (λ k. Some (row 5)) ∷ both_read
     ++ prepares_both 7
 
 abbrev pub front_ready : Front
@@ -74,7 +74,7 @@ front_writing = record front_ready { core = happens wires front_ready.core (Writ
 abbrev pub copies_over : List Action
 copies_over = Record_done ∷ asks_both (Commit 7) ++ Fall 1 ∷ Rise 1 ∷ Core (Draws 8) ∷ Open 1 8 ∷ Open 2 8 ∷ asks_both (Start 8)
     ++ Scan_on 1 (footprint_at 0 (all_keys ∷ []) false) ∷ Core (Delivers 1) ∷ Core (Reads 1)
-    ∷ Change_on 2 (footprint_at 1 (all_keys ∷ []) true) (λ k. None) ∷ Change_on 2 (footprint_at 1 one_key true) (λ k. Some 5)
+    ∷ Change_on 2 (footprint_at 1 (all_keys ∷ []) true) (λ k. None) ∷ Change_on 2 (footprint_at 1 one_key true) (λ k. Some (row 5))
     ∷ Core (Delivers 2) ∷ Core (Delivers 2) ∷ Core (Reads 2) ∷ Core (Reads 2) ∷ prepares_both 8
 
 abbrev pub front_copied : Front
@@ -82,7 +82,7 @@ front_copied = acted_all wires front_writing copies_over
 
 -- What link 0 has then, and what the scan of it gives.
 abbrev pub stored_first : Table
-stored_first = λ q. cond (covers (footprint_at 0 one_key true) q) (Some 5) None
+stored_first = λ q. cond (covers (footprint_at 0 one_key true) q) (Some (row 5)) None
 
 abbrev pub scanned_first : Table
 scanned_first = restricted (footprint_at 0 (all_keys ∷ []) false) stored_first
@@ -95,7 +95,7 @@ abbrev pub done_at_source : List Operation
 done_at_source = Scanned (footprint_at 0 (all_keys ∷ []) false) scanned_first ∷ []
 
 abbrev pub done_at_target : List Operation
-done_at_target = Changed (footprint_at 1 one_key true) (λ k. Some 5) ∷ Changed (footprint_at 1 (all_keys ∷ []) true) (λ k. None) ∷ []
+done_at_target = Changed (footprint_at 1 one_key true) (λ k. Some (row 5)) ∷ Changed (footprint_at 1 (all_keys ∷ []) true) (λ k. None) ∷ []
 
 abbrev pub one_batch : CopyBatch
 one_batch = record {
@@ -151,7 +151,7 @@ abbrev pub loses_server : List Action
 loses_server = Core (Draws 7) ∷ Core (Dials 1) ∷ Core (Dials 2) ∷ Open 1 7 ∷ Open 2 7 ∷ asks_both (Start 7)
     ++ Scan_on 1 (footprint_at 0 one_key true) ∷ Scan_on 2 (footprint_at 1 one_key true) ∷ both_read
     ++ Core (Breaks 2) ∷ Fall 1 ∷ Core (Hangup_seen 2) ∷ Core (Dials 4) ∷ Open 4 7 ∷ Core (Sends 4 (Start 7)) ∷ Core (Delivers 4) ∷ Core (Reads 4)
-    ∷ Change_on 1 (footprint_at 0 one_key true) (λ k. Some 5) ∷ Core (Delivers 1) ∷ Core (Reads 1)
+    ∷ Change_on 1 (footprint_at 0 one_key true) (λ k. Some (row 5)) ∷ Core (Delivers 1) ∷ Core (Reads 1)
     ∷ Core (Sends 1 (End 7)) ∷ Core (Delivers 1) ∷ Core (Reads 1) ∷ Prepare_on 1 7 ∷ Core (Delivers 1) ∷ Core (Reads 1) ∷ []
 
 abbrev pub front_alone : Front

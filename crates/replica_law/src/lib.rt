@@ -11,6 +11,7 @@
 #![tactic(auto)]
 
 ghost use Rattle.std.specs.Prelude.{◌≡◌, ℕ, Bool, List, [], ◌∷◌, Option, Some, None, true, false, map};
+ghost use Rattle.commit_protocol.specs.Rows.{row};
 ghost use Rattle.commit_protocol.specs.Network.{Topology};
 ghost use Rattle.commit_protocol.specs.Protocol.{Move, run, start, view};
 ghost use Rattle.commit_protocol.specs.Links.{Placement, Status, Front, Went, Run, new_front, at_link, has_key, has_recorded, plain, IsPlainSerial, IsAmong};
@@ -58,8 +59,8 @@ pub fn epochs_name_connections()
 pub fn one_is_copied()
     ensures run { Run wires places (new_front configured) front_whole }
     ensures status { (front_whole.link 1).status ≡ OK }
-    ensures row { view wires front_whole.core 1 (at_link 1 3) ≡ Some 5 }
-    ensures table { plain places front_whole.book 3 ≡ Some 5 }
+    ensures row { view wires front_whole.core 1 (at_link 1 3) ≡ Some (row 5) }
+    ensures table { plain places front_whole.book 3 ≡ Some (row 5) }
     ensures entries { front_whole.book ≡ map notes_of two_decided }
     ensures answered { AllAnswered two_decided }
 {}
@@ -76,6 +77,6 @@ pub fn one_is_reopened()
 pub fn one_goes_on()
     ensures run { Run wires places (new_front configured) front_decided_alone }
     ensures status { (front_decided_alone.link 1).status ≡ NG }
-    ensures row { view wires front_decided_alone.core 0 (at_link 0 3) ≡ Some 5 }
-    ensures table { plain places front_decided_alone.book 3 ≡ Some 5 }
+    ensures row { view wires front_decided_alone.core 0 (at_link 0 3) ≡ Some (row 5) }
+    ensures table { plain places front_decided_alone.book 3 ≡ Some (row 5) }
 {}
