@@ -14,10 +14,12 @@ pub record Course : Type 0 where
   pub core : World
   pub due : ℕ → List Request
 
+-- All but the first.
 abbrev pub tail_of : List Request → List Request
 tail_of [] = []
 tail_of (r ∷ rs) = rs
 
+-- What is due once the first waiting answer is read.
 abbrev pub due_read : (ℕ → List Request) → ℕ → List Reply → ℕ → List Request
 due_read due c [] = due
 due_read due c (a ∷ more) = set due c (tail_of (due c))
@@ -41,13 +43,16 @@ due_after f w due (Stops s) = due
 due_after f w due Front_stops = due
 due_after f w due (Reopens found) = due
 
+-- A move, with what is due after it.
 abbrev pub goes : Topology → Course → Move → Course
 goes f v m = record { core = happens f v.core m; due = due_after f v.core v.due m }
 
+-- These moves, the first one first.
 abbrev pub course : Topology → List Move → Course → Course
 course f [] v = v
 course f (m ∷ ms) v = course f ms (goes f v m)
 
+-- Nothing happened, nothing is due.
 abbrev pub new_course : Course
 new_course = record { core = start; due = λ c. [] }
 
@@ -73,6 +78,7 @@ RanMeans (Commit x) op = ⊥
 RanMeans (Rollback x) op = ⊥
 RanMeans Recover op = ⊥
 
+-- A list of what is prepared answers RECOVER alone.
 abbrev pub ListMeans : Request → Type 0
 ListMeans (Start x) = ⊥
 ListMeans (Scan fp) = ⊥

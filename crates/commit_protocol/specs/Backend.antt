@@ -11,16 +11,19 @@ pub data Stage : Type 0 where
   Ended : Stage
   Prepared : Stage
 
+-- It takes operations.
 abbrev pub is_active : Stage → Bool
 is_active Active = true
 is_active Ended = false
 is_active Prepared = false
 
+-- It takes PREPARE.
 abbrev pub is_ended : Stage → Bool
 is_ended Active = false
 is_ended Ended = true
 is_ended Prepared = false
 
+-- It waits for the decision, and outlives its connection and a stop.
 abbrev pub is_prepared : Stage → Bool
 is_prepared Active = false
 is_prepared Ended = false
@@ -43,6 +46,7 @@ abbrev pub find : ℕ → List Branch → Option Branch
 find x [] = None
 find x (b ∷ bs) = cond (eqb b.xid x) (Some b) (find x bs)
 
+-- The connection owns the branch.
 abbrev pub is_owned : ℕ → Branch → Bool
 is_owned c b = eqb b.owner c && not (is_prepared b.stage)
 
@@ -51,10 +55,12 @@ abbrev pub owned : ℕ → List Branch → Option Branch
 owned c [] = None
 owned c (b ∷ bs) = cond (is_owned c b) (Some b) (owned c bs)
 
+-- The branches that pass a test.
 abbrev pub kept : (Branch → Bool) → List Branch → List Branch
 kept p [] = []
 kept p (b ∷ bs) = cond (p b) (b ∷ kept p bs) (kept p bs)
 
+-- All branches but a transaction's.
 abbrev pub without : ℕ → List Branch → List Branch
 without x bs = kept (λ b. not (eqb b.xid x)) bs
 
@@ -81,6 +87,7 @@ pub data Request : Type 0 where
   Rollback : (xid : ℕ) → Request
   Recover : Request
 
+-- The interval of one key.
 abbrev pub point : ℕ → Interval
 point k = record { from = k; to = k }
 
@@ -88,9 +95,11 @@ point k = record { from = k; to = k }
 abbrev pub put_row : Key → Row → Request
 put_row k row = Change (record { table = k.table; keys = point k.key ∷ []; exclusive = true }) (λ q. Some row)
 
+-- Delete the row at a key.
 abbrev pub delete_key : Key → Request
 delete_key k = Change (record { table = k.table; keys = point k.key ∷ []; exclusive = true }) (λ q. None)
 
+-- Clear an interval of keys.
 abbrev pub clear : (table from to : ℕ) → Request
 clear table from to = Change (record { table = table; keys = record { from = from; to = to } ∷ []; exclusive = true }) (λ q. None)
 
@@ -117,18 +126,22 @@ abbrev pub scan_by : Server → Footprint → Option Branch → Operation
 scan_by s f None = Scanned f s.rows
 scan_by s f (Some b) = Scanned f (restricted f (after s.rows b.log))
 
+-- END: the owner ends its active branch.
 abbrev pub closed : ℕ → Option Branch → Effect
 closed c None = Keep
 closed c (Some b) = cond (eqb b.owner c && is_active b.stage) (Close b) Keep
 
+-- PREPARE: the owner prepares its ended branch.
 abbrev pub readied : ℕ → Option Branch → Effect
 readied c None = Keep
 readied c (Some b) = cond (eqb b.owner c && is_ended b.stage) (Ready b) Keep
 
+-- COMMIT: a prepared branch is installed, whoever asks.
 abbrev pub installed : Option Branch → Effect
 installed None = Keep
 installed (Some b) = cond (is_prepared b.stage) (Install b) Keep
 
+-- ROLLBACK: a prepared branch goes, whoever asks, and another for its owner.
 abbrev pub dropped : ℕ → Option Branch → Effect
 dropped c None = Keep
 dropped c (Some b) = cond (is_prepared b.stage || eqb b.owner c) (Drop b) Keep
@@ -166,9 +179,11 @@ done s (Install b) = record { rows = after s.rows b.log; branches = without b.xi
 abbrev pub served : Server → ℕ → Request → Server
 served s c r = done s (effect s c r)
 
+-- The server after a connection's end is seen: the unprepared branch that it owns goes.
 abbrev pub hung_up : Server → ℕ → Server
 hung_up s c = record s { branches = kept (λ b. not (is_owned c b)) s.branches }
 
+-- The server after a stop: prepared branches alone are left.
 abbrev pub stopped : Server → Server
 stopped s = record s { branches = kept (λ b. is_prepared b.stage) s.branches }
 
@@ -178,6 +193,7 @@ pub data Call : Type 0 where
   Hangs_up : (connection : ℕ) → Call
   Stops : Call
 
+-- The server after one call.
 abbrev pub called : Server → Call → Server
 called s (Asks c r) = served s c r
 called s (Hangs_up c) = hung_up s c
@@ -188,5 +204,6 @@ abbrev pub calls : List Call → Server → Server
 calls [] s = s
 calls (e ∷ es) s = calls es (called s e)
 
+-- A server without rows and branches.
 abbrev pub new_server : Server
 new_server = record { rows = λ k. None; branches = [] }

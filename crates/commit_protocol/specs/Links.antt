@@ -21,6 +21,7 @@ pub record Placement : Type 0 where
   pub link_partition : ℕ → ℕ
   pub link_server : ℕ → ℕ
 
+-- A key's place at a link's server.
 abbrev pub at_link : ℕ → ℕ → Key
 at_link l k = record { table = l; key = k }
 
@@ -28,21 +29,25 @@ at_link l k = record { table = l; key = k }
 abbrev pub lies : Placement → ℕ → List Interval → ℕ → Bool
 lies p q keys k = eqb (p.key_partition k) q && is_in_one keys k
 
+-- A link is usable, or is being copied to, or counts for nothing.
 pub data Status : Type 0 where
   OK : Status
   RECOVERY : Status
   NG : Status
 
+-- The link is OK.
 abbrev pub is_ok : Status → Bool
 is_ok OK = true
 is_ok RECOVERY = false
 is_ok NG = false
 
+-- The link is RECOVERY.
 abbrev pub is_recovery : Status → Bool
 is_recovery OK = false
 is_recovery RECOVERY = true
 is_recovery NG = false
 
+-- The link is NG.
 abbrev pub is_ng : Status → Bool
 is_ng OK = false
 is_ng RECOVERY = false
@@ -54,6 +59,7 @@ pub data Cursor : Type 0 where
   Up_to : (key : ℕ) → Cursor
   All : Cursor
 
+-- The key is at or below the cursor.
 abbrev pub reaches_key : Cursor → ℕ → Bool
 reaches_key Nothing k = false
 reaches_key (Up_to c) k = leb k c
@@ -152,6 +158,7 @@ has_by ms l n OK k = true
 has_by ms l n RECOVERY k = is_copied ms l n.epoch k
 has_by ms l n NG k = false
 
+-- The link has to have the key right, by its record's status.
 abbrev pub has_key : Front → ℕ → ℕ → Bool
 has_key v l k = has_by v.marks l (v.link l) (v.link l).status k
 
@@ -161,6 +168,7 @@ recorded_by n OK k = true
 recorded_by n RECOVERY k = reaches_key n.cursor k
 recorded_by n NG k = false
 
+-- The link has to have the key right as far as the records say.
 abbrev pub has_recorded : Front → ℕ → ℕ → Bool
 has_recorded v l k = recorded_by (v.link l) (v.link l).status k
 
@@ -181,14 +189,17 @@ abbrev pub was_sent : Went → List Went → Bool
 was_sent g [] = false
 was_sent g (h ∷ hs) = (eqb g.link h.link && (eqb g.connection h.connection && leb g.epoch h.epoch)) || was_sent g hs
 
+-- Each of these was sent.
 abbrev pub all_sent : List Went → List Went → Bool
 all_sent [] hs = true
 all_sent (g ∷ gs) hs = was_sent g hs && all_sent gs hs
 
+-- The links of a note.
 abbrev pub links_of : Note → List Went
 links_of (Read q keys look found links) = links
 links_of (Write q keys rows links) = links
 
+-- All that the notes name was sent.
 abbrev pub notes_sent : List Note → List Went → Bool
 notes_sent [] hs = true
 notes_sent (n ∷ ns) hs = all_sent (links_of n) hs && notes_sent ns hs
@@ -197,6 +208,7 @@ notes_sent (n ∷ ns) hs = all_sent (links_of n) hs && notes_sent ns hs
 abbrev pub scan_of : ℕ → List Interval → Footprint
 scan_of l keys = record { table = l; keys = keys; exclusive = false }
 
+-- The footprint of a change of a link.
 abbrev pub change_of : ℕ → List Interval → Footprint
 change_of l keys = record { table = l; keys = keys; exclusive = true }
 
@@ -264,6 +276,7 @@ AreWritten f p link ms (Write q keys rows links ∷ older) =
 abbrev pub protects : Topology → Placement → (ℕ → Link) → List ℕ → ℕ → Went → Bool
 protects f p link ms q g = is_ok (link g.link).status && (eqb g.epoch (link g.link).epoch && (eqb (p.link_partition g.link) q && has_member f (p.link_server g.link) ms))
 
+-- One of these links protects the read.
 abbrev pub one_protects : Topology → Placement → (ℕ → Link) → List ℕ → ℕ → List Went → Bool
 one_protects f p link ms q [] = false
 one_protects f p link ms q (g ∷ gs) = protects f p link ms q g || one_protects f p link ms q gs
@@ -302,6 +315,7 @@ abbrev pub is_put : List (List Interval) → ℕ → Bool
 is_put [] k = false
 is_put (keys ∷ more) k = is_in_one keys k || is_put more k
 
+-- The puts of a batch, noted on what went before.
 abbrev pub puts_onto : Placement → CopyBatch → List (List Interval) → List Note → List Note
 puts_onto p b [] notes = notes
 puts_onto p b (keys ∷ more) notes = Write (p.link_partition b.target.link) keys b.rows (b.target ∷ []) ∷ puts_onto p b more notes
@@ -310,9 +324,11 @@ puts_onto p b (keys ∷ more) notes = Write (p.link_partition b.target.link) key
 abbrev pub copy_notes : Placement → CopyBatch → List Note
 copy_notes p b = Write (p.link_partition b.target.link) (b.keys ∷ []) (λ k. None) (b.target ∷ []) ∷ Read (p.link_partition b.source.link) (b.keys ∷ []) (λ t. t) b.rows (b.source ∷ []) ∷ []
 
+-- All that a batch notes.
 abbrev pub batch_notes : Placement → CopyBatch → List Note
 batch_notes p b = puts_onto p b b.puts (copy_notes p b)
 
+-- How far a batch brings its destination.
 abbrev pub batch_mark : CopyBatch → Mark
 batch_mark b = record { link = b.target.link; epoch = b.target.epoch; upto = b.upto }
 
@@ -353,6 +369,7 @@ is_free_request (Prepare x) = false
 is_free_request (Commit x) = true
 is_free_request (Rollback x) = true
 
+-- The move of the core needs nothing more of the front.
 abbrev pub is_free : Move → Bool
 is_free (Draws x) = true
 is_free (Dials c) = true
@@ -393,12 +410,15 @@ booked v w None = record v { core = w }
 booked v w (Some (Statements notes)) = record v { core = w; writing = None; book = notes ∷ v.book }
 booked v w (Some (Batch notes mark)) = record v { core = w; writing = None; marks = mark ∷ v.marks; book = [] ∷ v.book }
 
+-- The log was opened again: the record in progress was found, or not.
 abbrev pub reopened : Front → World → Bool → Front
 reopened v w found = cond found (booked v w v.writing) (record v { core = w; writing = None })
 
+-- One link is another.
 abbrev pub with_link : Front → ℕ → Link → Front
 with_link v l n = record v { link = set v.link l n }
 
+-- A link after a change of status that raises its epoch: what was copied before doesn't count.
 abbrev pub raised : Link → Status → Link
 raised n s = record { status = s; epoch = n.epoch + 1; cursor = Nothing }
 
@@ -407,6 +427,7 @@ abbrev pub IsMark : Mark → List Mark → Type 0
 IsMark m [] = ⊥
 IsMark m (n ∷ ns) = (n ≡ m) ⊎ IsMark m ns
 
+-- What the front may do, each with its guard.
 pub data Next (f : Topology) (p : Placement) (v : Front) : Front → Type 0 where
   -- a move of the core that asks nothing more
   Goes : (m : Move) → is_free m ≡ true → Next f p v (record v { core = happens f v.core m })

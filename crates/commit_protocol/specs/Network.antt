@@ -19,6 +19,7 @@ pub data Reply : Type 0 where
   Did : Reply
   Listed : (xids : List ℕ) → Reply
 
+-- What the server answers where a request has this effect.
 abbrev pub reply : Effect → Reply
 reply Keep = Refused
 reply (Show xids) = Listed xids
@@ -43,10 +44,12 @@ pub record Connection : Type 0 where
   pub queue : List Request
   pub unread : List Reply
 
+-- Nothing is under way.
 abbrev pub no_requests : List Request → Bool
 no_requests [] = true
 no_requests (r ∷ rs) = false
 
+-- No answer waits.
 abbrev pub no_replies : List Reply → Bool
 no_replies [] = true
 no_replies (r ∷ rs) = false
@@ -75,6 +78,7 @@ broken c = record c { stands = false; missed = c.missed || not (is_empty c); unr
 abbrev pub ended : Connection → Connection
 ended c = record (broken c) { heard = false; queue = [] }
 
+-- The effect begins a branch.
 abbrev pub begins : Effect → Bool
 begins Keep = false
 begins (Show xids) = false
@@ -90,5 +94,6 @@ begins (Install b) = false
 abbrev pub after_serving : Connection → List Request → Effect → Reply → Connection
 after_serving c rest e told = record c { begun = c.begun || begins e; missed = c.missed || not c.stands; queue = rest; unread = cond c.stands (c.unread ++ told ∷ []) [] }
 
+-- A number that was never dialled.
 abbrev pub new_connection : Connection
 new_connection = record { xid = 0; begun = false; dialled = false; heard = false; stands = false; missed = false; queue = []; unread = [] }

@@ -16,24 +16,28 @@ pub data Phase : Type 0 where
   Writing : Phase
   Over : Phase
 
+-- Its number was not drawn.
 abbrev pub is_fresh : Phase → Bool
 is_fresh Fresh = true
 is_fresh Live = false
 is_fresh Writing = false
 is_fresh Over = false
 
+-- It may go on, and may be decided.
 abbrev pub is_live : Phase → Bool
 is_live Fresh = false
 is_live Live = true
 is_live Writing = false
 is_live Over = false
 
+-- Its record is in progress.
 abbrev pub is_writing : Phase → Bool
 is_writing Fresh = false
 is_writing Live = false
 is_writing Writing = true
 is_writing Over = false
 
+-- It is decided, ended or dead.
 abbrev pub is_over : Phase → Bool
 is_over Fresh = false
 is_over Live = false
@@ -107,6 +111,7 @@ may_ask f w c (Rollback y) = reaches (w.connection c) && (is_over (w.transaction
 abbrev pub may_use : World → ℕ → ℕ → Bool
 may_use w c x = is_idle (w.connection c) && (is_live (w.transaction x).phase && not ((w.transaction x).uses c))
 
+-- It is this connection.
 abbrev pub is_at : Option ℕ → ℕ → Bool
 is_at None c = false
 is_at (Some d) c = eqb d c
@@ -122,9 +127,11 @@ may_decide f w x ms = is_live (w.transaction x).phase && (is_none w.pending && a
 
 -- ---- what each move leaves
 
+-- A transaction has another phase.
 abbrev pub with_phase : World → ℕ → Phase → World
 with_phase w x p = record w { transaction = set w.transaction x (record (w.transaction x) { phase = p }) }
 
+-- A connection is another.
 abbrev pub with_connection : World → ℕ → Connection → World
 with_connection w c n = record w { connection = set w.connection c n }
 
@@ -135,6 +142,7 @@ uses_connection w c x = record w {
   transaction = set w.transaction x (record (w.transaction x) { uses = set (w.transaction x).uses c true });
 }
 
+-- The front notes on which connection a server was asked to prepare.
 abbrev pub asking : Topology → World → ℕ → Request → ℕ → Transaction
 asking f w c (Start y) = w.transaction
 asking f w c (Scan fp) = w.transaction
@@ -152,6 +160,7 @@ asks f w c r = record w {
   transaction = asking f w c r;
 }
 
+-- A server that has prepared is ready: it is set when it is true, not when it is known.
 abbrev pub readying : Topology → World → ℕ → Effect → ℕ → Transaction
 readying f w c Keep = w.transaction
 readying f w c (Show xids) = w.transaction
@@ -170,9 +179,11 @@ serves f w c rest e told = record w {
   transaction = readying f w c e;
 }
 
+-- The server has done the first request, and answers so.
 abbrev pub does : Topology → World → ℕ → List Request → Effect → World
 does f w c rest e = serves f w c rest e (reply e)
 
+-- The first request under way, if any, is done.
 abbrev pub delivers : Topology → World → ℕ → List Request → World
 delivers f w c [] = w
 delivers f w c (r ∷ rest) = does f w c rest (effect (w.server (f.home c)) c r)
@@ -214,9 +225,11 @@ noting c (Ran op) log = record { connection = c; op = op } ∷ log
 noting c Did log = log
 noting c (Listed xids) log = log
 
+-- A transaction as the front reads an answer of it.
 abbrev pub reading : ℕ → Reply → Transaction → Transaction
 reading c r t = record t { log = cond (is_live t.phase) (noting c r t.log) t.log }
 
+-- The first waiting answer, if any, is read.
 abbrev pub reads : World → ℕ → List Reply → World
 reads w c [] = w
 reads w c (r ∷ rest) = record w {
@@ -258,6 +271,7 @@ recorded w (Some d) = record w {
   pending = None;
 }
 
+-- A transaction of an earlier boot.
 abbrev pub dead : Transaction → Transaction
 dead t = record t { phase = cond (is_undecided t.phase) Over t.phase }
 
@@ -267,6 +281,7 @@ new_boot w = record w { transaction = λ x. dead (w.transaction x); pending = No
 
 -- ---- moves
 
+-- What may happen.
 pub data Move : Type 0 where
   -- a transaction draws its number
   Draws : (x : ℕ) → Move
@@ -301,6 +316,7 @@ pub data Move : Type 0 where
   -- the log is opened, as a new boot: a record in progress is in it whole, or isn't in it
   Reopens : (found : Bool) → Move
 
+-- What a move leaves: nothing changes where its guard fails.
 abbrev pub happens : Topology → World → Move → World
 happens f w (Draws x) = cond (is_fresh (w.transaction x).phase) (with_phase w x Live) w
 happens f w (Dials c) = cond (w.connection c).dialled w (with_connection w c (dialled_now (w.connection c)))
@@ -356,10 +372,12 @@ abbrev pub IsSerialAt : Topology → ℕ → List Decision → Type 0
 IsSerialAt f s [] = Unit {0}
 IsSerialAt f s (d ∷ older) = AreRight (decided_rows f s older) (done_at f s d.members d.log) × IsSerialAt f s older
 
+-- The rows with the changes of a prepared branch of the decision, where the server is a member.
 abbrev pub with_pending : Topology → ℕ → Decision → Table → Option Branch → Table
 with_pending f s d t None = t
 with_pending f s d t (Some b) = cond (is_prepared b.stage && has_member f s d.members) (after t b.log) t
 
+-- The committed rows with the prepared changes of these decisions, the oldest first.
 abbrev pub view_from : Topology → ℕ → Server → List Decision → Table
 view_from f s v [] = v.rows
 view_from f s v (d ∷ older) = with_pending f s d (view_from f s v older) (find d.number v.branches)
@@ -376,6 +394,7 @@ abbrev pub First : Request → List Request → Type 0
 First r [] = ⊥
 First r (q ∷ qs) = q ≡ r
 
+-- The decision is of this transaction, with the server as a member.
 abbrev pub is_member_of : Topology → Option Decision → ℕ → ℕ → Bool
 is_member_of f None y s = false
 is_member_of f (Some d) y s = eqb d.number y && has_member f s d.members

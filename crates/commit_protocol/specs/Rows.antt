@@ -16,6 +16,7 @@ pub record Key : Type 0 where
   pub table : ℕ
   pub key : ℕ
 
+-- Two places are one.
 abbrev pub same_key : Key → Key → Bool
 same_key a b = eqb a.table b.table && eqb a.key b.key
 
@@ -30,9 +31,11 @@ pub record Interval : Type 0 where
   pub from : ℕ
   pub to : ℕ
 
+-- A key lies in an interval.
 abbrev pub is_within : Interval → ℕ → Bool
 is_within i k = leb i.from k && leb k i.to
 
+-- A key lies in one of the intervals.
 abbrev pub is_in_one : List Interval → ℕ → Bool
 is_in_one [] k = false
 is_in_one (i ∷ is) k = is_within i k || is_in_one is k
@@ -41,10 +44,12 @@ is_in_one (i ∷ is) k = is_within i k || is_in_one is k
 abbrev pub meet : Interval → Interval → Bool
 meet i j = leb i.from j.to && leb j.from i.to
 
+-- An interval meets one of these.
 abbrev pub meets_one : Interval → List Interval → Bool
 meets_one i [] = false
 meets_one i (j ∷ js) = meet i j || meets_one i js
 
+-- An interval of the one list meets one of the other.
 abbrev pub some_meet : List Interval → List Interval → Bool
 some_meet [] js = false
 some_meet (i ∷ is) js = meets_one i js || some_meet is js
@@ -63,6 +68,7 @@ covers f k = eqb f.table k.table && is_in_one f.keys k.key
 abbrev pub conflicts : Footprint → Footprint → Bool
 conflicts f g = eqb f.table g.table && (some_meet f.keys g.keys && (f.exclusive || g.exclusive))
 
+-- The same keys, exclusive.
 abbrev pub exclusively : Footprint → Footprint
 exclusively f = record f { exclusive = true }
 
@@ -114,6 +120,7 @@ abbrev pub owns : List Operation → Key → Bool
 owns [] k = false
 owns (op ∷ older) k = ((footprint_of op).exclusive && covers (footprint_of op) k) || owns older k
 
+-- The operation changes the key.
 abbrev pub changes_key : Operation → Key → Bool
 changes_key (Scanned f rows) k = false
 changes_key (Changed f rows) k = covers f k

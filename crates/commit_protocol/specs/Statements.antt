@@ -40,6 +40,7 @@ changed p (a ∷ more) t = changed p more (written p a.partition a.keys a.rows t
 abbrev pub exec_answer : Placement → Statement → Plain → Answer
 exec_answer p s t = s.answer (finds p t s.scans)
 
+-- The plain tables that a statement leaves.
 abbrev pub exec_tables : Placement → Statement → Plain → Plain
 exec_tables p s t = changed p (s.changes (finds p t s.scans)) t
 
@@ -58,13 +59,16 @@ pub record Entry : Type 0 where
   pub scanned : List ScannedPart
   pub went : ℕ → List Went
 
+-- What the scans of an entry found.
 abbrev pub found_by : Entry → List Plain
 found_by e = map (λ (s : ScannedPart). s.found) e.scanned
 
+-- The reads of a statement, noted on what went before.
 abbrev pub reads_onto : List ScannedPart → List Note → List Note
 reads_onto [] notes = notes
 reads_onto (s ∷ ss) notes = reads_onto ss (Read s.scan.partition s.scan.keys s.scan.look s.found s.links ∷ notes)
 
+-- The writes of a statement, noted on what went before.
 abbrev pub writes_onto : (ℕ → List Went) → List PartChange → List Note → List Note
 writes_onto went [] notes = notes
 writes_onto went (a ∷ more) notes = writes_onto went more (Write a.partition a.keys a.rows (went a.partition) ∷ notes)
@@ -79,10 +83,12 @@ pub record IsAnswered (e : Entry) : Type 0 where
   pub scans : e.statement.scans ≡ map (λ (s : ScannedPart). s.scan) e.scanned
   pub answer : e.answer ≡ e.statement.answer (found_by e)
 
+-- Each entry of a transaction was answered so.
 abbrev pub AreAnswered : List Entry → Type 0
 AreAnswered [] = Unit {0}
 AreAnswered (e ∷ older) = IsAnswered e × AreAnswered older
 
+-- Each entry of each transaction was answered so.
 abbrev pub AllAnswered : List (List Entry) → Type 0
 AllAnswered [] = Unit {0}
 AllAnswered (es ∷ older) = AreAnswered es × AllAnswered older
@@ -99,6 +105,7 @@ abbrev pub IsExecuted : Placement → Plain → List Entry → Type 0
 IsExecuted p t [] = Unit {0}
 IsExecuted p t (e ∷ older) = (e.answer ≡ exec_answer p e.statement (tables_after p t older)) × IsExecuted p t older
 
+-- The plain tables after the transactions' entries, from empty ones.
 abbrev pub tables_of : Placement → List (List Entry) → Plain
 tables_of p [] = λ k. None
 tables_of p (es ∷ older) = tables_after p (tables_of p older) es

@@ -11,9 +11,11 @@ use Rattle.commit_protocol.specs.Protocol.Move.{Draws, Dials, Uses, Sends, Deliv
 abbrev pub two_servers : Topology
 two_servers = record { home = λ c. cond (eqb c 2) 1 0 }
 
+-- A key of table 0.
 abbrev pub at_key : ℕ → Key
 at_key k = record { table = 0; key = k }
 
+-- A key, exclusive.
 abbrev pub one_key : ℕ → Footprint
 one_key k = record { table = 0; keys = point k ∷ []; exclusive = true }
 
@@ -29,6 +31,7 @@ begins_on x c = Draws x ∷ Dials c ∷ Uses c x ∷ asks_and_reads c (Start x)
 abbrev pub writes_key : (c k : ℕ) (new : Row) → List Move
 writes_key c k new = asks_and_reads c (Scan (one_key k)) ++ asks_and_reads c (put_row (at_key k) new)
 
+-- It ends and prepares its branch.
 abbrev pub prepares : (x c : ℕ) → List Move
 prepares x c = asks_and_reads c (End x) ++ asks_and_reads c (Prepare x)
 
@@ -44,6 +47,7 @@ commits_once = prepared_once ++ Writes 7 (1 ∷ []) ∷ Recorded ∷ asks_and_re
 abbrev pub waits_for_lock : List Move
 waits_for_lock = prepared_once ++ begins_on 8 3 ++ asks_and_reads 3 (Scan (one_key 3))
 
+-- The same, and it asks again once the first is committed.
 abbrev pub gets_lock : List Move
 gets_lock = waits_for_lock ++ Writes 7 (1 ∷ []) ∷ Recorded ∷ asks_and_reads 1 (Commit 7) ++ asks_and_reads 3 (Scan (one_key 3))
 
@@ -51,6 +55,7 @@ gets_lock = waits_for_lock ++ Writes 7 (1 ∷ []) ∷ Recorded ∷ asks_and_read
 abbrev pub late_request : List Move
 late_request = begins_on 7 1 ++ Sends 1 (Scan (one_key 3)) ∷ Breaks 1 ∷ Delivers 1 ∷ []
 
+-- The same, and the end is seen.
 abbrev pub late_then_seen : List Move
 late_then_seen = late_request ++ Hangup_seen 1 ∷ []
 
@@ -62,9 +67,11 @@ stops_between = prepared_once ++ begins_on 8 3 ++ Stops 0 ∷ []
 abbrev pub stops_writing : Bool → List Move
 stops_writing found = prepared_once ++ Writes 7 (1 ∷ []) ∷ Front_stops ∷ Reopens found ∷ Dials 3 ∷ []
 
+-- The record was found: COMMIT.
 abbrev pub settles_commit : List Move
 settles_commit = stops_writing true ++ Sends 3 (Commit 7) ∷ Delivers 3 ∷ []
 
+-- The record was lost: ROLLBACK.
 abbrev pub settles_rollback : List Move
 settles_rollback = stops_writing false ++ Sends 3 (Rollback 7) ∷ Delivers 3 ∷ []
 
@@ -100,6 +107,7 @@ recovers = prepared_once ++ Dials 3 ∷ Sends 3 Recover ∷ Delivers 3 ∷ []
 abbrev pub after_run : List Move → World
 after_run ms = run two_servers ms start
 
+-- The row at a key of a server.
 abbrev pub row_at : List Move → ℕ → ℕ → Option Row
 row_at ms s k = ((after_run ms).server s).rows (at_key k)
 
@@ -108,6 +116,7 @@ abbrev pub has_log : Option Branch → ℕ → Bool
 has_log None n = false
 has_log (Some b) n = eqb (length b.log) n
 
+-- There is one.
 abbrev pub is_there : Option Branch → Bool
 is_there None = false
 is_there (Some b) = true

@@ -49,6 +49,7 @@ abbrev pub may_all : Topology → Placement → Front → List Action → Bool
 may_all f p v [] = true
 may_all f p v (a ∷ as_next) = may f p v a && may_all f p (acted f v a) as_next
 
+-- What these leave, the first one first.
 abbrev pub acted_all : Topology → Front → List Action → Front
 acted_all f v [] = v
 acted_all f v (a ∷ as_next) = acted_all f (acted f v a) as_next

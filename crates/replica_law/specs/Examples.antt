@@ -20,30 +20,39 @@ use Rattle.replica_law.specs.Actions.Action.{Core, Open, Scan_on, Change_on, Pre
 abbrev pub wires : Topology
 wires = record { home = λ c. cond (eqb c 2) 1 (cond (eqb c 4) 1 0) }
 
+-- Keys up to 10 are in partition 0; each link is of it, and at the server of its number.
 abbrev pub places : Placement
 places = record { key_partition = λ k. cond (leb k 10) 0 1; link_partition = λ l. 0; link_server = λ l. l }
 
+-- Links 0 and 1 are OK, others NG.
 abbrev pub configured : ℕ → Status
 configured l = cond (eqb l 0) OK (cond (eqb l 1) OK NG)
 
+-- Key 3.
 abbrev pub one_key : List Interval
 one_key = point 3 ∷ []
 
+-- All keys of the partition.
 abbrev pub all_keys : Interval
 all_keys = record { from = 0; to = 10 }
 
+-- A row at each key.
 abbrev pub five : Plain
 five = λ k. Some (row 5)
 
+-- Keys of a link.
 abbrev pub footprint_at : ℕ → List Interval → Bool → Footprint
 footprint_at l keys exclusive = record { table = l; keys = keys; exclusive = exclusive }
 
+-- A request goes to both servers and is answered.
 abbrev pub asks_both : Request → List Action
 asks_both r = Core (Sends 1 r) ∷ Core (Sends 2 r) ∷ Core (Delivers 1) ∷ Core (Delivers 2) ∷ Core (Reads 1) ∷ Core (Reads 2) ∷ []
 
+-- Both servers take a request and are read.
 abbrev pub both_read : List Action
 both_read = Core (Delivers 1) ∷ Core (Delivers 2) ∷ Core (Reads 1) ∷ Core (Reads 2) ∷ []
 
+-- Both branches are ended and prepared.
 abbrev pub prepares_both : ℕ → List Action
 prepares_both x = asks_both (End x) ++ Prepare_on 1 x ∷ Prepare_on 2 x ∷ both_read
 
@@ -54,9 +63,11 @@ writes_both = Core (Draws 7) ∷ Core (Dials 1) ∷ Core (Dials 2) ∷ Open 1 7 
     ++ Change_on 1 (footprint_at 0 one_key true) (λ k. Some (row 5)) ∷ Change_on 2 (footprint_at 1 one_key true) (λ k. Some (row 5)) ∷ both_read
     ++ prepares_both 7
 
+-- The front as transaction 7 is prepared.
 abbrev pub front_ready : Front
 front_ready = acted_all wires (new_front configured) writes_both
 
+-- Where the scans and changes of transaction 7 went.
 abbrev pub went_first : List Went
 went_first = record { link = 0; connection = 1; epoch = 0 } ∷ record { link = 1; connection = 2; epoch = 0 } ∷ []
 
@@ -64,9 +75,11 @@ went_first = record { link = 0; connection = 1; epoch = 0 } ∷ record { link = 
 abbrev pub nothing_found : Plain
 nothing_found = seen_in places 0 one_key (λ k. restricted (footprint_at 0 one_key true) (λ q. None) (at_link 0 k))
 
+-- What transaction 7 notes.
 abbrev pub first_notes : List Note
 first_notes = Write 0 one_key five went_first ∷ Read 0 one_key (λ t. t) nothing_found went_first ∷ []
 
+-- The front as its record is being written.
 abbrev pub front_writing : Front
 front_writing = record front_ready { core = happens wires front_ready.core (Writes 7 (1 ∷ 2 ∷ [])); writing = Some (Statements first_notes) }
 
@@ -77,6 +90,7 @@ copies_over = Record_done ∷ asks_both (Commit 7) ++ Fall 1 ∷ Rise 1 ∷ Core
     ∷ Change_on 2 (footprint_at 1 (all_keys ∷ []) true) (λ k. None) ∷ Change_on 2 (footprint_at 1 one_key true) (λ k. Some (row 5))
     ∷ Core (Delivers 2) ∷ Core (Delivers 2) ∷ Core (Reads 2) ∷ Core (Reads 2) ∷ prepares_both 8
 
+-- The front as the batch is prepared.
 abbrev pub front_copied : Front
 front_copied = acted_all wires front_writing copies_over
 
@@ -84,9 +98,11 @@ front_copied = acted_all wires front_writing copies_over
 abbrev pub stored_first : Table
 stored_first = λ q. cond (covers (footprint_at 0 one_key true) q) (Some (row 5)) None
 
+-- What the scan of link 0 gives.
 abbrev pub scanned_first : Table
 scanned_first = restricted (footprint_at 0 (all_keys ∷ []) false) stored_first
 
+-- The batch's rows.
 abbrev pub rows_copied : Plain
 rows_copied = seen_in places 0 (all_keys ∷ []) (λ k. scanned_first (at_link 0 k))
 
@@ -94,9 +110,11 @@ rows_copied = seen_in places 0 (all_keys ∷ []) (λ k. scanned_first (at_link 0
 abbrev pub done_at_source : List Operation
 done_at_source = Scanned (footprint_at 0 (all_keys ∷ []) false) scanned_first ∷ []
 
+-- What transaction 8 did at the destination.
 abbrev pub done_at_target : List Operation
 done_at_target = Changed (footprint_at 1 one_key true) (λ k. Some (row 5)) ∷ Changed (footprint_at 1 (all_keys ∷ []) true) (λ k. None) ∷ []
 
+-- The batch.
 abbrev pub one_batch : CopyBatch
 one_batch = record {
   source = record { link = 0; connection = 1; epoch = 0 };
@@ -107,6 +125,7 @@ one_batch = record {
   upto = All;
 }
 
+-- The front as the batch's record is being written.
 abbrev pub front_copying : Front
 front_copying = record front_copied { core = happens wires front_copied.core (Writes 8 (1 ∷ 2 ∷ [])); writing = Some (Batch (batch_notes places one_batch) (batch_mark one_batch)) }
 
@@ -114,9 +133,11 @@ front_copying = record front_copied { core = happens wires front_copied.core (Wr
 abbrev pub front_booked : Front
 front_booked = acted_all wires front_copying (Record_done ∷ asks_both (Commit 8))
 
+-- The cursor is recorded.
 abbrev pub front_cursor : Front
 front_cursor = with_link front_booked 1 (record (front_booked.link 1) { cursor = All })
 
+-- Link 1 is OK.
 abbrev pub front_whole : Front
 front_whole = with_link front_cursor 1 (record (front_cursor.link 1) { status = OK })
 
@@ -132,6 +153,7 @@ one_statement = record {
   changes = λ found. record { partition = 0; keys = one_key; rows = five } ∷ [];
 }
 
+-- How it was answered.
 abbrev pub one_entry : Entry
 one_entry = record {
   statement = one_statement;
@@ -154,6 +176,7 @@ loses_server = Core (Draws 7) ∷ Core (Dials 1) ∷ Core (Dials 2) ∷ Open 1 7
     ∷ Change_on 1 (footprint_at 0 one_key true) (λ k. Some (row 5)) ∷ Core (Delivers 1) ∷ Core (Reads 1)
     ∷ Core (Sends 1 (End 7)) ∷ Core (Delivers 1) ∷ Core (Reads 1) ∷ Prepare_on 1 7 ∷ Core (Delivers 1) ∷ Core (Reads 1) ∷ []
 
+-- The front as transaction 7 is prepared at server 0 alone.
 abbrev pub front_alone : Front
 front_alone = acted_all wires (new_front configured) loses_server
 
@@ -161,8 +184,10 @@ front_alone = acted_all wires (new_front configured) loses_server
 abbrev pub went_alone : List Went
 went_alone = record { link = 0; connection = 1; epoch = 0 } ∷ []
 
+-- What it notes: a read by both links, a write by one.
 abbrev pub alone_notes : List Note
 alone_notes = Write 0 one_key five went_alone ∷ Read 0 one_key (λ t. t) nothing_found went_first ∷ []
 
+-- It is decided.
 abbrev pub front_decided_alone : Front
 front_decided_alone = acted_all wires (record front_alone { core = happens wires front_alone.core (Writes 7 (1 ∷ [])); writing = Some (Statements alone_notes) }) (Record_done ∷ [])
