@@ -5,3 +5,4 @@ pub mod Moves
 pub mod Executed
 pub mod Computed
 pub mod Core
+pub mod Books

@@ -67,7 +67,7 @@ is_plain (Reopens found) = false
 abbrev pub SameBook : World → World → Type 0
 SameBook w v = (v.history ≡ w.history) × (v.pending ≡ w.pending)
 
-same_book : (f : Topology) (w : World) (m : Move) → is_plain m ≡ true → SameBook w (happens f w m)
+pub same_book : (f : Topology) (w : World) (m : Move) → is_plain m ≡ true → SameBook w (happens f w m)
 same_book f w (Draws x) h = guarded (SameBook w) (is_fresh (w.transaction x).phase) (with_phase w x Live) w (refl, refl) (λ t. (refl, refl))
 same_book f w (Dials c) h = unless (SameBook w) (w.connection c).dialled (with_connection w c (dialled_now (w.connection c))) w (refl, refl) (λ t. (refl, refl))
 same_book f w (Uses c x) h = guarded (SameBook w) (may_use w c x) (uses_connection w c x) w (refl, refl) (λ t. (refl, refl))
@@ -113,7 +113,7 @@ agreed_core f p v w line sent s b present i = record {
   next = λ m e. let k = i.next m e in (k.0, b.1 ∙ k.1, subst (λ h. Holds f p v.link (marks_of m v.marks) (k.0 ∷ h) (notes_of m ∷ v.book)) (sym b.0) k.2);
 }
 
-free_plain : (m : Move) → is_free m ≡ true → (is_plain m ≡ true) × (asks_prepare m ≡ false)
+pub free_plain : (m : Move) → is_free m ≡ true → (is_plain m ≡ true) × (asks_prepare m ≡ false)
 free_plain (Draws x) h = (refl, refl)
 free_plain (Dials c) h = (refl, refl)
 free_plain (Uses c x) h = cc
@@ -262,7 +262,7 @@ agreed_copies f p v x ms b m i = agreed_writes f p v x ms (Batch (batch_notes p 
 
 -- ---- a record is durable, or the log is opened
 
-recorded_history : (w : World) (q : Option Decision) (d : Decision) → q ≡ Some d → (recorded w q).history ≡ d ∷ w.history
+pub recorded_history : (w : World) (q : Option Decision) (d : Decision) → q ≡ Some d → (recorded w q).history ≡ d ∷ w.history
 recorded_history w None d e = cc
 recorded_history w (Some n) d e = let same : n ≡ d = cc in ap (λ z. z ∷ w.history) same
 
@@ -270,7 +270,7 @@ recorded_none : (w : World) (q : Option Decision) → w.pending ≡ q → (recor
 recorded_none w None e = e
 recorded_none w (Some n) e = refl
 
-nothing_recorded : (w : World) (q : Option Decision) → q ≡ None → (recorded w q).history ≡ w.history
+pub nothing_recorded : (w : World) (q : Option Decision) → q ≡ None → (recorded w q).history ≡ w.history
 nothing_recorded w None e = refl
 nothing_recorded w (Some n) e = cc
 

@@ -10,11 +10,12 @@
 //! What it promises: the laws, without any premise beyond the guards of `commit_protocol`'s moves.
 #![tactic(auto)]
 
-ghost use Rattle.std.specs.Prelude.{◌≡◌, ℕ, Bool, List, [], ◌∷◌, Option, Some, None, true, false, map};
+ghost use Rattle.std.specs.Prelude.{◌≡◌, ℕ, Bool, List, [], ◌∷◌, Option, Some, None, true, false, map, length, ◌⊎◌};
 ghost use Rattle.commit_protocol.specs.Rows.{row};
 ghost use Rattle.commit_protocol.specs.Network.{Topology};
 ghost use Rattle.commit_protocol.specs.Protocol.{Move, run, start, view};
-ghost use Rattle.commit_protocol.specs.Links.{Placement, Status, Front, Went, Run, new_front, at_link, has_key, has_recorded, plain, IsPlainSerial, IsAmong};
+ghost use Rattle.commit_protocol.specs.Links.{Placement, Status, Front, Went, Run, new_front, at_link, has_key, has_recorded, plain, IsPlainSerial, IsAmong, IsMark, is_recovery};
+ghost use Rattle.commit_protocol.specs.Links.Cursor.{Nothing};
 ghost use Rattle.commit_protocol.specs.Links.Status.{OK, NG};
 ghost use Rattle.commit_protocol.specs.Statements.{Entry, notes_of, AllAnswered, AreSerial, tables_of};
 ghost use Rattle.replica_law.specs.Examples.{wires, places, configured, first_notes, front_whole, front_reopened, two_decided, front_decided_alone};
@@ -39,6 +40,14 @@ pub fn statements_are_serial()
     ensures rows { (f : Topology) (p : Placement) (status : ℕ → Status) (v : Front) (book : List (List Entry)) (l k : ℕ) → Run f p (new_front status) v
         → v.book ≡ map notes_of book → AllAnswered book → has_recorded v l k ≡ true → p.key_partition k ≡ p.link_partition l
         → view f v.core (p.link_server l) (at_link l k) ≡ tables_of p book k }
+{}
+
+/// The book has one entry for each decision, in their order; and a cursor that is recorded of a RECOVERY link is that of a decided
+/// batch of the link's present epoch.
+pub fn books_follow_decisions()
+    ensures entries { (f : Topology) (p : Placement) (status : ℕ → Status) (v : Front) → Run f p (new_front status) v → length v.book ≡ length v.core.history }
+    ensures cursors { (f : Topology) (p : Placement) (status : ℕ → Status) (v : Front) (l : ℕ) → Run f p (new_front status) v → is_recovery (v.link l).status ≡ true
+        → ((v.link l).cursor ≡ Nothing) ⊎ IsMark (record { link = l; epoch = (v.link l).epoch; upto = (v.link l).cursor }) v.marks }
 {}
 
 /// What a front may come to is a run of the protocol: so the laws at each server hold of it.
