@@ -5,4 +5,7 @@ pub mod Store
 pub mod Protocol
 pub mod Answers
 pub mod Links
+pub mod Notes
+pub mod Copies
+pub mod Replicas
 pub mod Statements

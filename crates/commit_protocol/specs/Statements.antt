@@ -1,8 +1,9 @@
 -- Statements of any language: a list of scans and, as a function of what these find, an answer and changes.
 use Rattle.std.specs.Prelude.{◌≡◌, ℕ, List, [], ◌∷◌, map, None}
 use Rattle.commit_protocol.specs.Rows.{Interval}
-use Rattle.commit_protocol.specs.Links.{Plain, Placement, Went, Note, seen_in, written}
-use Rattle.commit_protocol.specs.Links.Note.{Read, Write}
+use Rattle.commit_protocol.specs.Links.{Plain, Placement}
+use Rattle.commit_protocol.specs.Notes.{Went, Note, seen_in, written}
+use Rattle.commit_protocol.specs.Notes.Note.{Read, Write}
 
 -- What a client is answered. No definition and no proof looks into an answer, so a product's type is put in here.
 abbrev pub Answer : Type 0

@@ -4,12 +4,14 @@ use Rattle.commit_protocol.specs.Backend.Request.{Scan, Change, Prepare}
 use Rattle.commit_protocol.specs.Network.{Topology}
 use Rattle.commit_protocol.specs.Protocol.{World, Decision, happens, recorded}
 use Rattle.commit_protocol.specs.Protocol.Move.{Uses, Sends, Writes, Recorded, Reopens}
-use Rattle.commit_protocol.specs.Links.{Placement, Went, Link, Status, Mark, Matter, Front, is_recovery, booked, with_link, raised, IsMark, Next, Run, new_front}
-use Rattle.commit_protocol.specs.Links.Matter.{Statements, Batch}
+use Rattle.commit_protocol.specs.Links.{Placement, Link, Status, Mark, is_recovery, raised, IsMark}
+use Rattle.commit_protocol.specs.Notes.{Went}
+use Rattle.commit_protocol.specs.Replicas.{Matter, Front, booked, with_link, Next, Run, new_front}
+use Rattle.commit_protocol.specs.Replicas.Matter.{Statements, Batch}
 use Rattle.commit_protocol.specs.Links.Status.{OK, RECOVERY, NG}
 use Rattle.commit_protocol.specs.Links.Cursor.{Nothing}
-use Rattle.commit_protocol.specs.Links.Next.{Goes, Opens, Scans, Changes, Prepares, Decides, Copies, Is_recorded, Is_reopened, Falls, Rises, Moves_cursor, Completes}
-use Rattle.commit_protocol.specs.Links.Run.{Stays, Steps}
+use Rattle.commit_protocol.specs.Replicas.Next.{Goes, Opens, Scans, Changes, Prepares, Decides, Copies, Is_recorded, Is_reopened, Falls, Rises, Moves_cursor, Completes}
+use Rattle.commit_protocol.specs.Replicas.Run.{Stays, Steps}
 use Rattle.protocol_law.proofs.Traffic.{set_cases}
 use Rattle.protocol_law.proofs.Runs.{same_history}
 use Rattle.replica_law.proofs.Moves.{IsAgreed, agreed_next, agreed_start, same_book, free_plain, recorded_history, nothing_recorded}

@@ -6,13 +6,16 @@ use Rattle.commit_protocol.specs.Network.{Topology}
 use Rattle.commit_protocol.specs.Backend.Request.{Commit}
 use Rattle.commit_protocol.specs.Protocol.{is_member, has_member, done_on, happens}
 use Rattle.commit_protocol.specs.Protocol.Move.{Writes}
-use Rattle.commit_protocol.specs.Links.{Placement, Front, Link, Status, is_ng, went_in, AreWritten, IsTold, is_put, MayDecide, MayCopy, Next, Run, new_front, batch_notes}
-use Rattle.commit_protocol.specs.Links.Follows.{Ends, Reads_pass, Writes_pass, Writes_here, Scans_pass}
-use Rattle.commit_protocol.specs.Links.IsReadAt.{Here, Earlier}
-use Rattle.commit_protocol.specs.Links.Next.{Goes, Opens, Scans, Changes, Prepares, Decides, Copies, Is_recorded, Is_reopened, Falls, Rises, Moves_cursor, Completes}
-use Rattle.commit_protocol.specs.Links.Run.{Stays, Steps}
+use Rattle.commit_protocol.specs.Links.{Placement, Link, Status, is_ng}
+use Rattle.commit_protocol.specs.Notes.{went_in, IsTold}
+use Rattle.commit_protocol.specs.Copies.{is_put, batch_notes}
+use Rattle.commit_protocol.specs.Replicas.{Front, AreWritten, MayDecide, MayCopy, Next, Run, new_front}
+use Rattle.commit_protocol.specs.Notes.Follows.{Ends, Reads_pass, Writes_pass, Writes_here, Scans_pass}
+use Rattle.commit_protocol.specs.Notes.IsReadAt.{Here, Earlier}
+use Rattle.commit_protocol.specs.Replicas.Next.{Goes, Opens, Scans, Changes, Prepares, Decides, Copies, Is_recorded, Is_reopened, Falls, Rises, Moves_cursor, Completes}
+use Rattle.commit_protocol.specs.Replicas.Run.{Stays, Steps}
 use Rattle.commit_protocol.specs.Links.Cursor.{Nothing, All}
-use Rattle.commit_protocol.specs.Links.Matter.{Statements}
+use Rattle.commit_protocol.specs.Replicas.Matter.{Statements}
 use Rattle.commit_protocol.specs.Links.Status.{OK, NG}
 use Rattle.protocol_law.proofs.Traffic.{is_none_from}
 use Rattle.replica_law.specs.Actions.{Action, may, acted, may_all, acted_all}

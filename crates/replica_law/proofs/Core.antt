@@ -4,10 +4,11 @@ use Rattle.commit_protocol.specs.Backend.Request.{Scan, Change, Prepare}
 use Rattle.commit_protocol.specs.Network.{Topology}
 use Rattle.commit_protocol.specs.Protocol.{World, Move, happens, run}
 use Rattle.commit_protocol.specs.Protocol.Move.{Uses, Sends, Writes, Recorded, Reopens}
-use Rattle.commit_protocol.specs.Links.{Placement, Front, Matter, booked, reopened, Next, Run}
-use Rattle.commit_protocol.specs.Links.Matter.{Statements, Batch}
-use Rattle.commit_protocol.specs.Links.Next.{Goes, Opens, Scans, Changes, Prepares, Decides, Copies, Is_recorded, Is_reopened, Falls, Rises, Moves_cursor, Completes}
-use Rattle.commit_protocol.specs.Links.Run.{Stays, Steps}
+use Rattle.commit_protocol.specs.Links.{Placement}
+use Rattle.commit_protocol.specs.Replicas.{Front, Matter, booked, reopened, Next, Run}
+use Rattle.commit_protocol.specs.Replicas.Matter.{Statements, Batch}
+use Rattle.commit_protocol.specs.Replicas.Next.{Goes, Opens, Scans, Changes, Prepares, Decides, Copies, Is_recorded, Is_reopened, Falls, Rises, Moves_cursor, Completes}
+use Rattle.commit_protocol.specs.Replicas.Run.{Stays, Steps}
 
 -- the core makes one move, or none
 abbrev pub IsCoreStep : Topology → World → World → Type 0

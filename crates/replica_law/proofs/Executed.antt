@@ -1,7 +1,8 @@
 -- Where reads found what the plain tables gave, statements are executed one after another.
 use Rattle.std.proofs.Common.{◌≡◌, ℕ, List, [], ◌∷◌, map, refl, sym, ap, ◌∙◌, subst, ap₂}
-use Rattle.commit_protocol.specs.Links.{Plain, Placement, Went, Note, plain_after, plain, IsPlainRun, IsPlainSerial}
-use Rattle.commit_protocol.specs.Links.Note.{Read, Write}
+use Rattle.commit_protocol.specs.Links.{Plain, Placement}
+use Rattle.commit_protocol.specs.Notes.{Went, Note, plain_after, plain, IsPlainRun, IsPlainSerial}
+use Rattle.commit_protocol.specs.Notes.Note.{Read, Write}
 use Rattle.commit_protocol.specs.Statements.{PartChange, finds, changed, ScannedPart, Entry, found_by, reads_onto, writes_onto, notes_of, AreAnswered, AllAnswered, tables_after, IsExecuted, tables_of, AreSerial}
 
 after_writes : (p : Placement) (t : Plain) (went : ℕ → List Went) (changes : List PartChange) (notes : List Note) → plain_after p t (writes_onto went changes notes) ≡ changed p changes (plain_after p t notes)

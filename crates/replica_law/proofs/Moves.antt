@@ -8,12 +8,15 @@ use Rattle.commit_protocol.specs.Network.{set, Topology, Reply, dialled_now}
 use Rattle.commit_protocol.specs.Protocol.{World, Transaction, Decision, Move, is_fresh, is_live, is_member, may_ask, may_use, may_decide, asks, asking, delivers, refuses, faults, reads, writes, recorded, with_phase, with_connection, uses_connection, sees_hangup, done_on, decided_rows, view, happens}
 use Rattle.commit_protocol.specs.Protocol.Phase.{Live, Over}
 use Rattle.commit_protocol.specs.Protocol.Move.{Draws, Dials, Uses, Sends, Delivers, Refuses, Faults, Reads, Breaks, Hangup_seen, Writes, Recorded, Gives_up, Stops, Front_stops, Reopens}
-use Rattle.commit_protocol.specs.Links.{Placement, Went, Note, Link, Status, Cursor, Mark, Matter, CopyBatch, Front, at_link, plain, is_recovery, reaches_key, is_copied, has_by, has_key, recorded_by, has_recorded, notes_sent, MayDecide, MayCopy, batch_notes, batch_mark, is_free, all_past, is_line, sends_to, booked, reopened, with_link, raised, IsMark, IsTold, Next, Run, new_front}
-use Rattle.commit_protocol.specs.Links.Matter.{Statements, Batch}
+use Rattle.commit_protocol.specs.Links.{Placement, Link, Status, Cursor, Mark, at_link, is_recovery, reaches_key, is_copied, has_by, recorded_by, raised, IsMark}
+use Rattle.commit_protocol.specs.Notes.{Went, Note, plain, notes_sent, IsTold}
+use Rattle.commit_protocol.specs.Copies.{CopyBatch, batch_notes, batch_mark}
+use Rattle.commit_protocol.specs.Replicas.{Matter, Front, has_key, has_recorded, MayDecide, MayCopy, is_free, all_past, is_line, sends_to, booked, reopened, with_link, Next, Run, new_front}
+use Rattle.commit_protocol.specs.Replicas.Matter.{Statements, Batch}
 use Rattle.commit_protocol.specs.Links.Status.{OK, RECOVERY, NG}
 use Rattle.commit_protocol.specs.Links.Cursor.{Nothing, All}
-use Rattle.commit_protocol.specs.Links.Next.{Goes, Opens, Scans, Changes, Prepares, Decides, Copies, Is_recorded, Is_reopened, Falls, Rises, Moves_cursor, Completes}
-use Rattle.commit_protocol.specs.Links.Run.{Stays, Steps}
+use Rattle.commit_protocol.specs.Replicas.Next.{Goes, Opens, Scans, Changes, Prepares, Decides, Copies, Is_recorded, Is_reopened, Falls, Rises, Moves_cursor, Completes}
+use Rattle.commit_protocol.specs.Replicas.Run.{Stays, Steps}
 use Rattle.protocol_law.proofs.Traffic.{set_cases, guarded, unless, is_none_from}
 use Rattle.protocol_law.proofs.Serial.{is_at_from}
 use Rattle.protocol_law.proofs.Runs.{IsSound, sound, sound_happens, view_is}

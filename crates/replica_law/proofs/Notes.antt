@@ -3,10 +3,11 @@ use Rattle.std.proofs.Common.{◌≡◌, ◌≢◌, ℕ, Bool, true, false, cond
 use Rattle.std.proofs.lemmas.Bool.Decides.{nat_tests}
 use Rattle.std.proofs.lemmas.Bool.{cases_Bool}
 use Rattle.commit_protocol.specs.Rows.{Table, Interval, Footprint, Operation, is_in_one, covers, after, AreRight}
-use Rattle.commit_protocol.specs.Links.{Plain, Placement, Went, Note, at_link, lies, seen_in, written, plain_after, went_to, all_of, Follows, IsReadAt}
-use Rattle.commit_protocol.specs.Links.Note.{Read, Write}
-use Rattle.commit_protocol.specs.Links.Follows.{Ends, Reads_pass, Writes_pass, Writes_here, Scans_pass, Changes_other}
-use Rattle.commit_protocol.specs.Links.IsReadAt.{Here, Earlier}
+use Rattle.commit_protocol.specs.Links.{Plain, Placement, at_link, lies}
+use Rattle.commit_protocol.specs.Notes.{Went, Note, seen_in, written, plain_after, went_to, all_of, Follows, IsReadAt}
+use Rattle.commit_protocol.specs.Notes.Note.{Read, Write}
+use Rattle.commit_protocol.specs.Notes.Follows.{Ends, Reads_pass, Writes_pass, Writes_here, Scans_pass, Changes_other}
+use Rattle.commit_protocol.specs.Notes.IsReadAt.{Here, Earlier}
 
 -- two plain tables that have the same at each key are one
 pub same_plain : (t u : Plain) → ((k : ℕ) → t k ≡ u k) → t ≡ u

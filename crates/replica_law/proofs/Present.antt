@@ -8,7 +8,9 @@ use Rattle.commit_protocol.specs.Network.{set, Topology, Reply, dialled_now}
 use Rattle.commit_protocol.specs.Protocol.{World, Transaction, Decision, Move, has_member, is_fresh, is_live, may_ask, may_use, may_decide, asks, delivers, refuses, left_of, faults, reads, recorded, new_boot, writes, with_phase, with_connection, uses_connection, sees_hangup, happens}
 use Rattle.commit_protocol.specs.Protocol.Phase.{Live, Over}
 use Rattle.commit_protocol.specs.Protocol.Move.{Draws, Dials, Uses, Sends, Delivers, Refuses, Faults, Reads, Breaks, Hangup_seen, Writes, Recorded, Gives_up, Stops, Front_stops, Reopens}
-use Rattle.commit_protocol.specs.Links.{Placement, Link, Went, went_to, went_in, was_sent, all_sent, protects, one_protects, is_ok, all_past, IsAmong}
+use Rattle.commit_protocol.specs.Links.{Placement, Link, is_ok}
+use Rattle.commit_protocol.specs.Notes.{Went, went_to, went_in, was_sent, all_sent, IsAmong}
+use Rattle.commit_protocol.specs.Replicas.{protects, one_protects, all_past}
 use Rattle.protocol_law.proofs.Traffic.{set_cases, guarded, unless}
 use Rattle.protocol_law.proofs.Serving.{served_rest}
 

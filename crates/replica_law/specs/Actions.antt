@@ -5,7 +5,8 @@ use Rattle.commit_protocol.specs.Backend.Request.{Scan, Change, Prepare}
 use Rattle.commit_protocol.specs.Network.{set, Topology}
 use Rattle.commit_protocol.specs.Protocol.{Move, may_ask, may_use, happens}
 use Rattle.commit_protocol.specs.Protocol.Move.{Uses, Sends, Recorded, Reopens}
-use Rattle.commit_protocol.specs.Links.{Placement, Front, is_ng, is_free, all_past, is_line, sends_to, booked, reopened, with_link, raised}
+use Rattle.commit_protocol.specs.Links.{Placement, is_ng, raised}
+use Rattle.commit_protocol.specs.Replicas.{Front, is_free, all_past, is_line, sends_to, booked, reopened, with_link}
 use Rattle.commit_protocol.specs.Links.Status.{RECOVERY, NG}
 
 -- A move of the front.

@@ -7,11 +7,14 @@ use Rattle.commit_protocol.specs.Backend.Request.{Start, End, Commit}
 use Rattle.commit_protocol.specs.Network.{Topology}
 use Rattle.commit_protocol.specs.Protocol.{happens}
 use Rattle.commit_protocol.specs.Protocol.Move.{Draws, Dials, Sends, Delivers, Reads, Breaks, Hangup_seen, Writes}
-use Rattle.commit_protocol.specs.Links.{Plain, Placement, Went, Note, Status, Front, CopyBatch, at_link, seen_in, batch_notes, batch_mark, with_link, new_front}
-use Rattle.commit_protocol.specs.Links.Note.{Read, Write}
+use Rattle.commit_protocol.specs.Links.{Plain, Placement, Status, at_link}
+use Rattle.commit_protocol.specs.Notes.{Went, Note, seen_in}
+use Rattle.commit_protocol.specs.Copies.{CopyBatch, batch_notes, batch_mark}
+use Rattle.commit_protocol.specs.Replicas.{Front, with_link, new_front}
+use Rattle.commit_protocol.specs.Notes.Note.{Read, Write}
 use Rattle.commit_protocol.specs.Links.Status.{OK, NG}
 use Rattle.commit_protocol.specs.Links.Cursor.{All}
-use Rattle.commit_protocol.specs.Links.Matter.{Statements, Batch}
+use Rattle.commit_protocol.specs.Replicas.Matter.{Statements, Batch}
 use Rattle.commit_protocol.specs.Statements.{Statement, Entry}
 use Rattle.replica_law.specs.Actions.{Action, acted_all}
 use Rattle.replica_law.specs.Actions.Action.{Core, Open, Scan_on, Change_on, Prepare_on, Record_done, Reopen, Fall, Rise}

@@ -14,7 +14,9 @@ ghost use Rattle.std.specs.Prelude.{◌≡◌, ℕ, Bool, List, [], ◌∷◌, O
 ghost use Rattle.commit_protocol.specs.Rows.{row};
 ghost use Rattle.commit_protocol.specs.Network.{Topology};
 ghost use Rattle.commit_protocol.specs.Protocol.{Move, run, start, view};
-ghost use Rattle.commit_protocol.specs.Links.{Placement, Status, Front, Went, Run, new_front, at_link, has_key, has_recorded, plain, IsPlainSerial, IsAmong, IsMark, is_recovery};
+ghost use Rattle.commit_protocol.specs.Links.{Placement, Status, at_link, IsMark, is_recovery};
+ghost use Rattle.commit_protocol.specs.Notes.{Went, plain, IsPlainSerial, IsAmong};
+ghost use Rattle.commit_protocol.specs.Replicas.{Front, Run, new_front, has_key, has_recorded};
 ghost use Rattle.commit_protocol.specs.Links.Cursor.{Nothing};
 ghost use Rattle.commit_protocol.specs.Links.Status.{OK, NG};
 ghost use Rattle.commit_protocol.specs.Statements.{Entry, notes_of, AllAnswered, AreSerial, tables_of};

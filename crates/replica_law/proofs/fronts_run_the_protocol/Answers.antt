@@ -1,4 +1,4 @@
-use Rattle.commit_protocol.specs.Links.{new_front}
+use Rattle.commit_protocol.specs.Replicas.{new_front}
 use Rattle.replica_law.proofs.Core.{core_runs}
 use Rattle.replica_law.proofs.fronts_run_the_protocol.Goals as goal
 

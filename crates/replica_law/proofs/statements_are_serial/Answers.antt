@@ -1,5 +1,6 @@
 use Rattle.std.proofs.Common.{◌∙◌, ap, subst}
-use Rattle.commit_protocol.specs.Links.{Plain, IsPlainSerial, plain}
+use Rattle.commit_protocol.specs.Links.{Plain}
+use Rattle.commit_protocol.specs.Notes.{IsPlainSerial, plain}
 use Rattle.replica_law.proofs.Moves.{agreed, link_view}
 use Rattle.replica_law.proofs.Executed.{all_executed}
 use Rattle.replica_law.proofs.statements_are_serial.Goals as goal
