@@ -3,6 +3,7 @@ pub mod Backend
 pub mod Network
 pub mod Store
 pub mod Protocol
+pub mod Views
 pub mod Answers
 pub mod Links
 pub mod Notes

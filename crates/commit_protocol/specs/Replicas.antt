@@ -4,7 +4,8 @@ use Rattle.commit_protocol.specs.Rows.{Table, Footprint, is_within}
 use Rattle.commit_protocol.specs.Backend.{Request}
 use Rattle.commit_protocol.specs.Backend.Request.{Start, Scan, Change, End, Prepare, Commit, Rollback, Recover}
 use Rattle.commit_protocol.specs.Network.{set, Topology}
-use Rattle.commit_protocol.specs.Protocol.{World, Move, is_at, has_member, is_member, may_ask, may_use, may_decide, done_on, happens, start}
+use Rattle.commit_protocol.specs.Protocol.{World, Move, is_at, has_member, is_member, may_ask, may_use, may_decide, happens, start}
+use Rattle.commit_protocol.specs.Views.{done_on}
 use Rattle.commit_protocol.specs.Protocol.Move.{Draws, Dials, Uses, Sends, Delivers, Refuses, Faults, Reads, Breaks, Hangup_seen, Writes, Recorded, Gives_up, Stops, Front_stops, Reopens}
 use Rattle.commit_protocol.specs.Links.{Placement, Status, is_ok, is_recovery, is_ng, Cursor, Link, Mark, has_by, recorded_by, comes_to, raised, IsMark}
 use Rattle.commit_protocol.specs.Links.Status.{OK, RECOVERY, NG}

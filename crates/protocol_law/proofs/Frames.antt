@@ -4,7 +4,8 @@ use Rattle.std.proofs.lemmas.Bool.Decides.{nat_tests}
 use Rattle.commit_protocol.specs.Backend.{Branch, Server, Request, find, is_prepared, kept}
 use Rattle.commit_protocol.specs.Backend.Request.{Start, Scan, Change, End, Prepare, Commit, Rollback, Recover}
 use Rattle.commit_protocol.specs.Network.{Topology, Connection, Reply, set, no_replies, is_empty, is_idle, dialled_now, broken, ended}
-use Rattle.commit_protocol.specs.Protocol.{World, Transaction, Decision, Phase, is_fresh, is_live, is_writing, is_over, is_undecided, done_on, are_ready, recorded, dead, uses_connection, with_phase, stops}
+use Rattle.commit_protocol.specs.Protocol.{World, Transaction, Decision, Phase, is_fresh, is_live, is_writing, is_over, is_undecided, are_ready, recorded, dead, uses_connection, with_phase, stops}
+use Rattle.commit_protocol.specs.Views.{done_on}
 use Rattle.commit_protocol.specs.Protocol.Phase.{Fresh, Live, Writing, Over}
 use Rattle.protocol_law.proofs.Branches.{find_kept}
 use Rattle.protocol_law.proofs.Locks.{IsLocked, locked_kept}
@@ -202,10 +203,10 @@ pub record IsLess (a b : Connection) : Type 0 where
   pub missed : a.missed ≡ false → b.missed ≡ false
   pub kept : a.missed ≡ false → a.queue ≡ b.queue
 
-abbrev pub with_chans : World → (ℕ → Connection) → World
-with_chans w g = record w { connection = g }
+abbrev pub with_connections : World → (ℕ → Connection) → World
+with_connections w g = record w { connection = g }
 
-less_allowed : (f : Topology) (w : World) (g : ℕ → Connection) (c : ℕ) → IsLess (g c) (w.connection c) → (rest : List Request) (r : Request) → IsAllowed f w c rest r → IsAllowed f (with_chans w g) c rest r
+less_allowed : (f : Topology) (w : World) (g : ℕ → Connection) (c : ℕ) → IsLess (g c) (w.connection c) → (rest : List Request) (r : Request) → IsAllowed f w c rest r → IsAllowed f (with_connections w g) c rest r
 less_allowed f w g c l rest (Start y) a = (a.0 ∙ sym l.xid, l.begun ∙ a.1, a.2, a.3)
 less_allowed f w g c l rest (Scan fp) a = (l.begun ∙ a.0, λ e. a.1 (ap (λ x. (w.transaction x).asked (f.home c)) (sym l.xid) ∙ e))
 less_allowed f w g c l rest (Change fp rows) a = (l.begun ∙ a.0, λ e. a.1 (ap (λ x. (w.transaction x).asked (f.home c)) (sym l.xid) ∙ e))
@@ -215,12 +216,12 @@ less_allowed f w g c l rest (Prepare y) a = (a.0 ∙ sym l.xid, a.1, a.2, a.3)
 less_allowed f w g c l rest (Commit y) a = a
 less_allowed f w g c l rest (Rollback y) a = a
 
-pub orderly_less : (f : Topology) (w : World) (g : ℕ → Connection) → ((c : ℕ) → IsLess (g c) (w.connection c)) → IsOrderly f w → IsOrderly f (with_chans w g)
+pub orderly_less : (f : Topology) (w : World) (g : ℕ → Connection) → ((c : ℕ) → IsLess (g c) (w.connection c)) → IsOrderly f w → IsOrderly f (with_connections w g)
 orderly_less f w g l i = record {
   locked = i.locked;
   sent = λ c. ⊎_elim
-      (λ (e : (g c).queue ≡ (w.connection c).queue). subst (λ q. AreAllowed f (with_chans w g) c q) (sym e) (allowed_still f w (with_chans w g) c (less_allowed f w g c (l c)) (w.connection c).queue (i.sent c)))
-      (λ (e : (g c).queue ≡ []). subst (λ q. AreAllowed f (with_chans w g) c q) (sym e) tt)
+      (λ (e : (g c).queue ≡ (w.connection c).queue). subst (λ q. AreAllowed f (with_connections w g) c q) (sym e) (allowed_still f w (with_connections w g) c (less_allowed f w g c (l c)) (w.connection c).queue (i.sent c)))
+      (λ (e : (g c).queue ≡ []). subst (λ q. AreAllowed f (with_connections w g) c q) (sym e) tt)
       (l c).queue;
   own = λ c y b h k e p. i.own c y b (sym (l c).begun ∙ h) k e p ∙ sym (l c).xid;
   used = i.used;

@@ -8,7 +8,8 @@ use Rattle.commit_protocol.specs.Backend.Stage.{Active, Ended, Prepared}
 use Rattle.commit_protocol.specs.Backend.Request.{Start, Scan, Change, End, Prepare, Commit, Rollback, Recover}
 use Rattle.commit_protocol.specs.Backend.Effect.{Keep, Show, Begin, Grow, Close, Ready, Drop, Install}
 use Rattle.commit_protocol.specs.Network.{Topology, Connection, Reply, set, is_idle, reply}
-use Rattle.commit_protocol.specs.Protocol.{World, Transaction, Decision, Step, Phase, Move, is_fresh, is_live, is_over, is_undecided, may_ask, asks, serves, readying, delivers, refuses, faults, reads, noting, done_on, may_decide, writes, recorded, uses_connection, with_phase, sees_hangup, stops, happens, start}
+use Rattle.commit_protocol.specs.Protocol.{World, Transaction, Decision, Step, Phase, Move, is_fresh, is_live, is_over, is_undecided, may_ask, asks, serves, readying, delivers, refuses, faults, reads, noting, may_decide, writes, recorded, uses_connection, with_phase, sees_hangup, stops, happens, start}
+use Rattle.commit_protocol.specs.Views.{done_on}
 use Rattle.commit_protocol.specs.Network.Reply.{Refused, Ran, Did, Listed}
 use Rattle.commit_protocol.specs.Protocol.Phase.{Fresh, Live, Writing, Over}
 use Rattle.commit_protocol.specs.Protocol.Move.{Draws, Dials, Uses, Sends, Delivers, Refuses, Faults, Reads, Breaks, Hangup_seen, Writes, Recorded, Gives_up, Stops, Front_stops, Reopens}
@@ -17,7 +18,7 @@ use Rattle.protocol_law.proofs.Effects as known
 use Rattle.protocol_law.proofs.Effects.Did.{Kept, Showed, Begun, Grew, Closed, Readied, Dropped, Installed}
 use Rattle.protocol_law.proofs.Locks.{IsLocked, put_cases}
 use Rattle.protocol_law.proofs.Traffic.{IsOrderly, IsAllowed, AreAllowed, no_ran, is_ran, set_cases, none_told, guarded, unless, is_none_from}
-use Rattle.protocol_law.proofs.Frames.{IsLess, less_at, less_broken, less_ended, less_dialled, with_chans, stops_less, ends_all, none_undecided_then, with_server, with_queue, with_progress}
+use Rattle.protocol_law.proofs.Frames.{IsLess, less_at, less_broken, less_ended, less_dialled, with_connections, stops_less, ends_all, none_undecided_then, with_server, with_queue, with_progress}
 use Rattle.protocol_law.proofs.Sending.{notes_asked}
 use Rattle.protocol_law.proofs.Serving.{served_rest, served_ready, IsNews, news_prepare, ran_from, Says, says_left, did_left, orderly_serves}
 use Rattle.protocol_law.proofs.Orderly.{done_on_other, done_on_quiet}
@@ -410,7 +411,7 @@ matched_reads f w c r q u o i = record {
     frozen_at x d b l a h mine (inl same) = grind (arith, nat_tests, i.frozen x c b, o.quiet c, ap no_ran u, done_on_quiet c c r (w.transaction (w.connection c).xid).log)
     frozen_at x d b l a h mine (inr ne) = grind (arith, nat_tests, i.frozen x d b, done_on_other c d r (w.transaction (w.connection c).xid).log)
 
-pub matched_less : (f : Topology) (w : World) (g : ℕ → Connection) → ((c : ℕ) → IsLess (g c) (w.connection c)) → IsMatched f w → IsMatched f (with_chans w g)
+pub matched_less : (f : Topology) (w : World) (g : ℕ → Connection) → ((c : ℕ) → IsLess (g c) (w.connection c)) → IsMatched f w → IsMatched f (with_connections w g)
 matched_less f w g l i = record {
   told = λ c b all live h mine.
       let k = i.told c b ((l c).missed all) (ap (λ x. is_live (w.transaction x).phase) (sym (l c).xid) ∙ live) (ap (λ x. find x (w.server (f.home c)).branches) (sym (l c).xid) ∙ h) mine in

@@ -5,7 +5,8 @@ use Rattle.std.proofs.lemmas.Bool.{cases_Bool}
 use Rattle.commit_protocol.specs.Backend.{Request}
 use Rattle.commit_protocol.specs.Backend.Request.{Start, Scan, Change, End, Prepare, Commit, Rollback, Recover}
 use Rattle.commit_protocol.specs.Network.{Topology, Connection, Reply}
-use Rattle.commit_protocol.specs.Protocol.{World, Decision, Step, Move, is_fresh, is_live, may_ask, asks, reads, noting, done_on, may_decide, writes, recorded, uses_connection, with_phase, sees_hangup, stops, happens, start}
+use Rattle.commit_protocol.specs.Protocol.{World, Decision, Step, Move, is_fresh, is_live, may_ask, asks, reads, noting, may_decide, writes, recorded, uses_connection, with_phase, sees_hangup, stops, happens, start}
+use Rattle.commit_protocol.specs.Views.{done_on}
 use Rattle.commit_protocol.specs.Network.Reply.{Refused, Ran, Did, Listed}
 use Rattle.commit_protocol.specs.Protocol.Phase.{Live, Writing, Over}
 use Rattle.protocol_law.proofs.Locks.{locked_new}

@@ -8,7 +8,8 @@ use Rattle.commit_protocol.specs.Backend.Stage.{Prepared}
 use Rattle.commit_protocol.specs.Backend.Request.{Commit, Rollback}
 use Rattle.commit_protocol.specs.Backend.Effect.{Drop, Install}
 use Rattle.commit_protocol.specs.Network.{Topology, Reply, dialled_now}
-use Rattle.commit_protocol.specs.Protocol.{World, Decision, Move, decided_at, has_member, is_member_of, is_fresh, is_live, is_undecided, done_on, may_ask, asks, delivers, refuses, faults, reads, uses_connection, with_phase, with_connection, sees_hangup, may_decide, writes, recorded, happens, run, start, done_at, decided_rows, with_pending, view_from, view, First, decides_member}
+use Rattle.commit_protocol.specs.Protocol.{World, Decision, Move, decided_at, has_member, is_fresh, is_live, is_undecided, may_ask, asks, delivers, refuses, faults, reads, uses_connection, with_phase, with_connection, sees_hangup, may_decide, writes, recorded, happens, run, start}
+use Rattle.commit_protocol.specs.Views.{is_member_of, done_on, done_at, decided_rows, with_pending, view_from, view, First, decides_member}
 use Rattle.commit_protocol.specs.Protocol.Phase.{Live, Over}
 use Rattle.commit_protocol.specs.Protocol.Move.{Draws, Dials, Uses, Sends, Delivers, Refuses, Faults, Reads, Breaks, Hangup_seen, Writes, Recorded, Gives_up, Stops, Front_stops, Reopens}
 use Rattle.protocol_law.proofs.Branches.{find_xid}

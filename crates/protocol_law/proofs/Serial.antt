@@ -1,4 +1,4 @@
--- What counts of each server is the plain table, and the decided transactions are a run of it.
+-- What counts of each server is its decided rows, and its own history is serial.
 use Rattle.std.proofs.Common.{◌≡◌, ◌≢◌, ℕ, Bool, true, false, cond, ◌&&◌, ◌||◌, eqb, List, [], ◌∷◌, Option, Some, None, refl, sym, ap, ◌∙◌, subst, arith, ◌⊎◌, inl, inr, ⊎_elim, eqb-true}
 use Rattle.std.proofs.lemmas.Bool.Decides.{nat_tests}
 use Rattle.std.proofs.lemmas.Bool.{cases_Bool, cases_eq}
@@ -7,7 +7,8 @@ use Rattle.commit_protocol.specs.Rows.Operation.{Scanned, Changed}
 use Rattle.commit_protocol.specs.Backend.{Branch, Server, Request, Effect, find, is_prepared, kept, without, blocked, done, hung_up, stopped}
 use Rattle.commit_protocol.specs.Backend.Request.{Prepare}
 use Rattle.commit_protocol.specs.Network.{Topology, Connection, Reply, set, dialled_now, broken}
-use Rattle.commit_protocol.specs.Protocol.{World, Transaction, Step, Phase, Decision, Move, is_fresh, is_live, is_writing, is_over, is_undecided, decided_at, has_member, is_member, may_ask, asks, asking, serves, delivers, refuses, faults, reads, may_decide, are_ready, is_at, writes, recorded, new_boot, uses_connection, with_phase, with_connection, sees_hangup, stops, front_stops, happens, start, done_on, done_at, decided_rows, IsSerialAt}
+use Rattle.commit_protocol.specs.Protocol.{World, Transaction, Step, Phase, Decision, Move, is_fresh, is_live, is_writing, is_over, is_undecided, decided_at, has_member, is_member, may_ask, asks, asking, serves, delivers, refuses, faults, reads, may_decide, are_ready, is_at, writes, recorded, new_boot, uses_connection, with_phase, with_connection, sees_hangup, stops, front_stops, happens, start}
+use Rattle.commit_protocol.specs.Views.{done_on, done_at, decided_rows, IsSerialAt}
 use Rattle.commit_protocol.specs.Backend.Effect.{Keep}
 use Rattle.commit_protocol.specs.Network.Reply.{Refused}
 use Rattle.commit_protocol.specs.Protocol.Phase.{Fresh, Live, Writing, Over}
@@ -72,7 +73,7 @@ free_of_counting f w i s y fp k a h act free c = i.base s k (λ x b g n. other x
         cc
     other x b g n (inr ne) = not_touched b.log k (clear_of fp b.log k (not_blocked y fp (w.server s).branches x b free g ne) c).0
 
--- so what it reads is right on the plain table
+-- so what it reads is right on the decided rows
 grown_right : (f : Topology) (w : World) → IsSerial f w → (s y : ℕ) (op : Operation) (a : Branch) → find y (w.server s).branches ≡ Some a → is_prepared a.stage ≡ false → blocked y (footprint_of op) (w.server s).branches ≡ false
     → IsRight (after (w.server s).rows a.log) op → IsRight (after (decided_rows f s w.history) a.log) op
 grown_right f w i s y (Scanned fp rows) a h act free r = λ k. r k ∙ elim (covers fp k) as (λ v. covers fp k ≡ v → cond v (after (w.server s).rows a.log k) None ≡ cond v (after (decided_rows f s w.history) a.log k) None) [

@@ -4,7 +4,8 @@ use Rattle.std.proofs.lemmas.Bool.Decides.{nat_tests}
 use Rattle.commit_protocol.specs.Backend.{Branch, Request, find, is_prepared}
 use Rattle.commit_protocol.specs.Backend.Request.{Start, Scan, Change, End, Prepare, Commit, Rollback, Recover}
 use Rattle.commit_protocol.specs.Network.{Topology, Reply, set, no_requests, no_replies}
-use Rattle.commit_protocol.specs.Protocol.{World, Transaction, Decision, Phase, is_fresh, is_live, is_writing, is_over, decided_at, has_member, done_on, are_ready}
+use Rattle.commit_protocol.specs.Protocol.{World, Transaction, Decision, Phase, is_fresh, is_live, is_writing, is_over, decided_at, has_member, are_ready}
+use Rattle.commit_protocol.specs.Views.{done_on}
 use Rattle.commit_protocol.specs.Network.Reply.{Refused, Ran, Did, Listed}
 use Rattle.commit_protocol.specs.Protocol.Phase.{Fresh, Live, Writing, Over}
 use Rattle.protocol_law.proofs.Locks.{IsLocked}

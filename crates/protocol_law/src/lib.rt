@@ -19,7 +19,8 @@ ghost use Rattle.commit_protocol.specs.Network.{Topology, Reply, reply, is_empty
 ghost use Rattle.commit_protocol.specs.Answers.{Answers, course, new_course};
 ghost use Rattle.commit_protocol.specs.Store.{stored, tells, store_hung_up, store_stopped, store_of};
 ghost use Rattle.commit_protocol.specs.Network.Reply.{Listed};
-ghost use Rattle.commit_protocol.specs.Protocol.{Move, run, start, happens, view, decided_at, decides_member, decided_rows, done_on, is_fresh, is_undecided, First, IsSerialAt};
+ghost use Rattle.commit_protocol.specs.Protocol.{Move, run, start, happens, decided_at, is_fresh, is_undecided};
+ghost use Rattle.commit_protocol.specs.Views.{view, decides_member, decided_rows, done_on, First, IsSerialAt};
 ghost use Rattle.protocol_law.specs.Examples.{two_servers, commits_once, waits_for_lock, gets_lock, late_request, late_then_seen, stops_between, settles_commit, settles_rollback, settles_too_early, decides_nothing, gives_up, spans_servers, refuses_scan, faults_preparing, recovers, after_run, row_at, has_log, is_there, branch_of, decided_numbers};
 
 /// At one server no footprints of two live branches conflict, and each key that a branch changes is in one of its exclusive

@@ -5,7 +5,8 @@ use Rattle.std.proofs.lemmas.Bool.Decides.{nat_tests}
 use Rattle.std.proofs.lemmas.Bool.{cases_Bool, cases_eq}
 use Rattle.commit_protocol.specs.Rows.{Interval, Operation, Table, is_within, is_in_one, after, AreRight}
 use Rattle.commit_protocol.specs.Network.{Topology}
-use Rattle.commit_protocol.specs.Protocol.{Transaction, Decision, has_member, is_member, are_ready, done_on, done_at, decided_rows}
+use Rattle.commit_protocol.specs.Protocol.{Transaction, Decision, has_member, is_member, are_ready}
+use Rattle.commit_protocol.specs.Views.{done_on, done_at, decided_rows}
 use Rattle.commit_protocol.specs.Links.{Plain, Placement, Link, Status, Cursor, Mark, at_link, lies, is_ok, is_recovery, is_ng, reaches_key, is_below, is_copied, comes_to, has_by}
 use Rattle.commit_protocol.specs.Notes.{Went, Note, seen_in, plain_after, plain, IsPlainRun, IsPlainSerial, went_to, went_in, notes_sent, Follows, ReadsFollow, IsTold}
 use Rattle.commit_protocol.specs.Copies.{CopyBatch, EndsAt, is_put, puts_onto, copy_notes, batch_notes, batch_mark}

@@ -4,7 +4,8 @@ use Rattle.std.proofs.lemmas.Bool.Decides.{nat_tests}
 use Rattle.commit_protocol.specs.Rows.{Row, row, is_within, is_in_one}
 use Rattle.commit_protocol.specs.Network.{Topology}
 use Rattle.commit_protocol.specs.Backend.Request.{Commit}
-use Rattle.commit_protocol.specs.Protocol.{is_member, has_member, done_on, happens}
+use Rattle.commit_protocol.specs.Protocol.{is_member, has_member, happens}
+use Rattle.commit_protocol.specs.Views.{done_on}
 use Rattle.commit_protocol.specs.Protocol.Move.{Writes}
 use Rattle.commit_protocol.specs.Links.{Placement, Link, Status, is_ng}
 use Rattle.commit_protocol.specs.Notes.{went_in, IsTold}

@@ -5,7 +5,8 @@ use Rattle.commit_protocol.specs.Rows.{Table, Footprint}
 use Rattle.commit_protocol.specs.Backend.{Request}
 use Rattle.commit_protocol.specs.Backend.Request.{Start, Scan, Change, End, Prepare, Commit, Rollback, Recover}
 use Rattle.commit_protocol.specs.Network.{set, Topology, Reply, dialled_now}
-use Rattle.commit_protocol.specs.Protocol.{World, Transaction, Decision, Move, is_fresh, is_live, is_member, may_ask, may_use, may_decide, asks, asking, delivers, refuses, faults, reads, writes, recorded, with_phase, with_connection, uses_connection, sees_hangup, done_on, decided_rows, view, happens}
+use Rattle.commit_protocol.specs.Protocol.{World, Transaction, Decision, Move, is_fresh, is_live, is_member, may_ask, may_use, may_decide, asks, asking, delivers, refuses, faults, reads, writes, recorded, with_phase, with_connection, uses_connection, sees_hangup, happens}
+use Rattle.commit_protocol.specs.Views.{done_on, decided_rows, view}
 use Rattle.commit_protocol.specs.Protocol.Phase.{Live, Over}
 use Rattle.commit_protocol.specs.Protocol.Move.{Draws, Dials, Uses, Sends, Delivers, Refuses, Faults, Reads, Breaks, Hangup_seen, Writes, Recorded, Gives_up, Stops, Front_stops, Reopens}
 use Rattle.commit_protocol.specs.Links.{Placement, Link, Status, Cursor, Mark, at_link, is_recovery, reaches_key, is_copied, has_by, recorded_by, raised, IsMark}

@@ -13,7 +13,8 @@
 ghost use Rattle.std.specs.Prelude.{◌≡◌, ℕ, Bool, List, [], ◌∷◌, Option, Some, None, true, false, map, length, ◌⊎◌};
 ghost use Rattle.commit_protocol.specs.Rows.{row};
 ghost use Rattle.commit_protocol.specs.Network.{Topology};
-ghost use Rattle.commit_protocol.specs.Protocol.{Move, run, start, view};
+ghost use Rattle.commit_protocol.specs.Protocol.{Move, run, start};
+ghost use Rattle.commit_protocol.specs.Views.{view};
 ghost use Rattle.commit_protocol.specs.Links.{Placement, Status, at_link, IsMark, is_recovery};
 ghost use Rattle.commit_protocol.specs.Notes.{Went, plain, IsPlainSerial, IsAmong};
 ghost use Rattle.commit_protocol.specs.Replicas.{Front, Run, new_front, has_key, has_recorded};
