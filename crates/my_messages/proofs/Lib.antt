@@ -8,3 +8,4 @@ pub mod Rows
 pub mod Texts
 pub mod Utf8Steps
 pub mod Written
+pub mod WholeReplies

@@ -173,10 +173,10 @@ row_or_end_message width = same_message (RowForm width) (IsRowOrEnd width) (row_
 
 -- ---- stages
 
-goes_is : (s t : Stage) → Goes s ≡ Goes t → s ≡ t
+pub goes_is : (s t : Stage) → Goes s ≡ Goes t → s ≡ t
 goes_is s t e = cc
 
-gives_is : (r q : Reply) → Gives r ≡ Gives q → r ≡ q
+pub gives_is : (r q : Reply) → Gives r ≡ Gives q → r ≡ q
 gives_is r q e = cc
 
 stops_is : (a b : ℕ) → Stops a ≡ Stops b → a ≡ b

@@ -27,14 +27,14 @@ at_end P bytes h = record { front = bytes; rest = []; whole = sym (append-nil by
 next : (P Q : List ℕ → Type 0) (a b : List ℕ) → P a → Q b → Then P Q (a ++ b)
 next P Q a b h k = record { front = a; rest = b; whole = refl; first = h; second = k }
 
-written_ok : (a s w : ℕ) → a < 2 ^ 64 → s < 2 ^ 16 → w < 2 ^ 16 → IsOkPacket a s w (ok_bytes a s w)
+pub written_ok : (a s w : ℕ) → a < 2 ^ 64 → s < 2 ^ 16 → w < 2 ^ 16 → IsOkPacket a s w (ok_bytes a s w)
 written_ok a s w p q r =
     next _ _ (0 ∷ []) (lenenc a ++ ((0 ∷ []) ++ (little_bytes 2 s ++ little_bytes 2 w))) refl (
     next _ _ (lenenc a) ((0 ∷ []) ++ (little_bytes 2 s ++ little_bytes 2 w)) (lenenc_form a p) (
     next _ _ (0 ∷ []) (little_bytes 2 s ++ little_bytes 2 w) (inl (omega arith, refl, refl)) (
     next _ _ (little_bytes 2 s) (little_bytes 2 w) (written_int 2 s (omega arith)) (at_end _ (little_bytes 2 w) (written_int 2 w (omega arith))))))
 
-written_eof : (s : ℕ) → s < 2 ^ 16 → IsEofPacket s (eof_bytes s)
+pub written_eof : (s : ℕ) → s < 2 ^ 16 → IsEofPacket s (eof_bytes s)
 written_eof s q =
     next _ _ (0xFE ∷ []) ((0 ∷ 0 ∷ []) ++ little_bytes 2 s) refl (next _ _ (0 ∷ 0 ∷ []) (little_bytes 2 s) refl (at_end _ (little_bytes 2 s) (written_int 2 s (omega arith))))
 
@@ -52,7 +52,7 @@ written_traits c h =
     next _ _ (c.kind ∷ []) (little_bytes 2 c.flags ++ (0 ∷ 0 ∷ 0 ∷ [])) (refl, omega arith) (
     next _ _ (little_bytes 2 c.flags) (0 ∷ 0 ∷ 0 ∷ []) (written_int 2 c.flags (omega arith)) (at_end _ (0 ∷ 0 ∷ 0 ∷ []) refl)))))
 
-written_definition : (c : Column) → IsColumnValue c → IsDefinition c (definition_bytes c)
+pub written_definition : (c : Column) → IsColumnValue c → IsDefinition c (definition_bytes c)
 written_definition c h =
     let r = traits_bytes c in
     let a = text_bytes (codes "def") in

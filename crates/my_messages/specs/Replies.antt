@@ -1,8 +1,8 @@
 -- Replies out of the payloads of their packets.
-use Rattle.std.specs.Prelude.{◌≡◌, ℕ, zero, suc, ◌+◌, ◌-◌, List, [], ◌∷◌, ◌++◌, length, Option, Some, None, Result, Ok, Err}
+use Rattle.std.specs.Prelude.{◌≡◌, ℕ, zero, suc, ◌+◌, ◌-◌, ◌⊎◌, List, [], ◌∷◌, ◌++◌, length, Option, Some, None, Result, Ok, Err}
 use Rattle.my_wire.specs.Grammar.{◌>>=◌}
 use Rattle.my_messages.specs.Reading.{or_else, ok_at, err_at, count_at, switch_at, eof_at, definition_at, cells_at}
-use Rattle.my_messages.specs.Reply.{IsOkPacket, IsErrPacket, IsEofPacket, IsSwitchRequest, IsColumnCount, IsDefinition, IsRowOf, Each}
+use Rattle.my_messages.specs.Reply.{IsOkPacket, IsErrPacket, IsEofPacket, IsSwitchRequest, IsColumnCount, IsDefinition, IsRowOf, Each, IsReply}
 use Rattle.my_messages.specs.declared.fault.MessageFault.{MessageFault}
 use Rattle.my_messages.specs.declared.fault.MessageFault.TheVariants as faults
 use Rattle.my_messages.specs.declared.reply.Column.{Column}
@@ -116,3 +116,12 @@ LeadsTo payloads stages.First = payloads ≡ []
 LeadsTo payloads (stages.Definitions owed columns) = InDefinitions owed columns payloads
 LeadsTo payloads (stages.Rows columns rows) = InRows columns rows payloads
 LeadsTo payloads (stages.Refused place) = ⊥
+
+-- some reply has these payloads and then this one
+abbrev pub IsNext : List (List ℕ) → List ℕ → Type 0
+IsNext payloads payload = (more : List (List ℕ)) × (reply : Reply) × IsReply reply (payloads ++ payload ∷ more)
+
+-- what a reader answers to payloads, one after the other: nothing until the last, and then the reply
+abbrev pub Answers : Stage → List (List ℕ) → Reply → Type 0
+Answers s [] reply = ⊥
+Answers s (payload ∷ more) reply = ((more ≡ []) × (push_at s payload ≡ Gives reply)) ⊎ ((t : Stage) × (push_at s payload ≡ Goes t) × Answers t more reply)

@@ -23,7 +23,9 @@ mod utf8;
 pub use command::{Command, LONGEST_DATABASE, decode_command, encode_command};
 pub use encode::encode_reply;
 pub use fault::MessageFault;
-pub use laws::{payloads_have_one_command, replies_are_read, replies_are_written};
+pub use laws::{
+    payloads_have_one_command, replies_are_read, replies_are_read_back, replies_are_written,
+};
 pub use list_types::Text;
 pub use reply::{Cell, CellRow, CellRows, Column, Columns, Reply};
 pub use reply_reader::ReplyReader;

@@ -120,3 +120,48 @@ fn places(rt: HostRuntime) -> Result<(), Fail> {
     }
     Ok(())
 }
+
+// Each form of one payload at its limits.
+#[test]
+fn limits(rt: HostRuntime) -> Result<(), Fail> {
+    let mut reader = ReplyReader::new(rt.alloc(), 0);
+    let most = Reply::Ok {
+        affected: u64::MAX,
+        status: u16::MAX,
+        warnings: u16::MAX,
+    };
+    let payload = b"\x00\xFE\xFF\xFF\xFF\xFF\xFF\xFF\xFF\xFF\x00\xFF\xFF\xFF\xFF";
+    assert_eq!(rt; reader.push(payload)?, Some(most));
+    let bare = Reply::Err {
+        number: u16::MAX,
+        state: *b"00000",
+        message: text(&rt, "")?,
+    };
+    assert_eq!(rt; reader.push(b"\xFF\xFF\xFF#00000")?, Some(bare));
+    let switch = Reply::Switch {
+        plugin: text(&rt, "")?,
+        nonce: *b"01234567890123456789",
+    };
+    assert_eq!(rt;
+        reader.push(b"\xFE\x0001234567890123456789\x00")?,
+        Some(switch)
+    );
+    Ok(())
+}
+
+// A row may begin with FE where it has nine bytes or more.
+#[test]
+fn rows_and_ends(rt: HostRuntime) -> Result<(), Fail> {
+    let mut reader = ReplyReader::new(rt.alloc(), 0);
+    let payloads: [&[u8]; 4] = [
+        b"\x01",
+        b"\x03def\x06spider\x01t\x01t\x01v\x01v\x0C\x2D\x00\x50\x00\x00\x00\xFD\x01\x00\x00\x00\x00",
+        b"\xFE\x00\x00\x02\x00",
+        b"\xFE\x01\x00\x00\x00\x00\x00\x00\x00a",
+    ];
+    for payload in payloads {
+        assert_eq!(rt; reader.push(payload)?, None);
+    }
+    assert_eq!(rt; reader.push(b"\xFE\x00\x00\x02\x00")?, Some(one_row(&rt)?));
+    Ok(())
+}
