@@ -21,7 +21,10 @@ mod records;
 pub use fault::LogFault;
 pub use files::DiskPair;
 pub use log::Log;
-pub use records::{Bytes, Records};
+pub use records::Records;
+
+/// The payload of a record.
+pub use list_types::Bytes;
 
 /// The longest payload of a record, in bytes.
 pub const MAX_PAYLOAD: u64 = 8_388_608;

@@ -81,7 +81,7 @@ pub fn read_records(alloc: Global, bytes: &[u8]) -> Result<Body, ReadFault>
         let Some((payload, behind)) = whole_record(after) else {
             return Err(ReadFault::Broken);
         };
-        records.push(Bytes::from_slice(alloc, payload)?)?;
+        records.push(Bytes::from_vec(Vec::from_slice(alloc, payload)?))?;
         rest = behind;
     }
     if rest.is_empty() {

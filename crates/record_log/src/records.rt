@@ -1,47 +1,8 @@
 //! Records and lists of them.
 ghost use Rattle.std.specs.Prelude.{◌≡◌, ◌++◌, [], ◌∷◌, ◌≤◌, ◌<◌, ℕ, length, IfOk, OnOk, OnErr};
 
+use list_types::Bytes;
 use std::alloc::{AllocError, Global};
-use std::marker::Model;
-
-/// The payload of a record.
-#[derive(Debug, Drop)]
-pub struct Bytes {
-    inner: Vec<u8>,
-}
-
-impl Model for Bytes {
-    ghost use Rattle.std.specs.Prelude.{ℕ, List};
-
-    ghost Value = { List ℕ };
-
-    ghost view = { λ b. b.inner.items };
-}
-
-impl Bytes {
-    /// The bytes of a vector.
-    pub fn from_vec(inner: Vec<u8>) -> Bytes
-        ensures { result ≡ inner.items }
-    {
-        Bytes { inner }
-    }
-
-    /// A copy of these bytes.
-    pub fn from_slice(alloc: Global, bytes: &[u8]) -> Result<Bytes, AllocError>
-        ensures { IfOk result (λ b. b ≡ bytes.now) }
-    {
-        Ok(Bytes {
-            inner: Vec::from_slice(alloc, bytes)?,
-        })
-    }
-
-    /// The bytes themselves.
-    pub fn as_slice(&self) -> &[u8]
-        ensures { result.now ≡ self.now }
-    {
-        &self.inner
-    }
-}
 
 /// A list of records, the oldest first.
 #[derive(Debug, Drop)]

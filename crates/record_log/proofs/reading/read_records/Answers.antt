@@ -6,7 +6,7 @@ use Rattle.record_log.proofs.reading.read_records.Goals as goal
 pub loop-after-preserved : goal.loop-after-preserved
 loop-after-preserved c =
     let so_far = c.loop-after.invariant in
-    loop_step _ so_far.0 _ _ _ _ (list_of c.loop-after.records) _ so_far.1 c.in-Some.ensures.opened so_far.2 so_far.3 c.in-Some-whole_record.ensures.whole c.in-Some-whole_record.ensures.payload c.in-Some-whole_record.ensures.behind (let pushed = c.in_ok-push.ensures {u = tt} in pushed.ok ∙ ap (λ (p : List ℕ). list_of c.loop-after.records ++ p ∷ []) c.in_ok-from_slice.ensures)
+    loop_step _ so_far.0 _ _ _ _ (list_of c.loop-after.records) _ so_far.1 c.in-Some.ensures.opened so_far.2 so_far.3 c.in-Some-whole_record.ensures.whole c.in-Some-whole_record.ensures.payload c.in-Some-whole_record.ensures.behind (let pushed = c.in_ok-push.ensures {u = tt} in pushed.ok ∙ ap (λ (p : List ℕ). list_of c.loop-after.records ++ p ∷ []) (c.from_vec.ensures ∙ c.in_ok-from_slice.ensures.items))
 
 pub returns-clause-records : goal.returns-clause-records
 returns-clause-records c =

@@ -1,0 +1,12 @@
+pub mod Rows
+pub mod Backend
+pub mod Network
+pub mod Store
+pub mod Protocol
+pub mod Views
+pub mod Answers
+pub mod Links
+pub mod Notes
+pub mod Copies
+pub mod Replicas
+pub mod Statements

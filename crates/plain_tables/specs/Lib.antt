@@ -1,0 +1,5 @@
+pub mod Exec
+pub mod Replies
+pub mod Serial
+pub mod Solo
+pub mod Table

@@ -1,0 +1,255 @@
+use list_types::Text;
+use my_wire::{Bytes, MemFile, MemFiles, MemSink, MemSource, ScriptedCall};
+use spider_cli::{FIRST_CONF, spider_local};
+use std::alloc::{AllocError, Global};
+use std::test::Fail;
+
+/// What a call over memory gave.
+#[derive(Drop)]
+struct Ran {
+    status: u8,
+    out: Vec<u8>,
+    err: Vec<u8>,
+}
+
+/// Calls the program with words that are separated by blanks, on a file `conf` with these contents.
+fn call(
+    alloc: Global,
+    line: &str,
+    conf: &[u8],
+    schedule: &[u8],
+    reads: Vec<ScriptedCall>,
+    writes: Vec<ScriptedCall>,
+) -> Result<Ran, AllocError> {
+    let mut words = Vec::new(alloc);
+    for word in line.split_ascii_whitespace() {
+        words.push(String::from_str(alloc, word)?)?;
+    }
+    let mut all = Vec::new(alloc);
+    all.push(MemFile {
+        path: Text::from_str(alloc, "conf")?,
+        contents: Bytes::from_vec(Vec::from_slice(alloc, conf)?),
+    })?;
+    let mut files = MemFiles::new(all, Vec::new(alloc));
+    let mut input = MemSource::new(Vec::from_slice(alloc, schedule)?, reads);
+    let mut out = MemSink::new(alloc, 10_000, writes)?;
+    let mut err = MemSink::new(alloc, 1_000, Vec::new(alloc))?;
+    let status = spider_local(
+        alloc,
+        words.as_slice(),
+        &mut files,
+        &mut input,
+        &mut out,
+        &mut err,
+    );
+    Ok(Ran {
+        status: status.code,
+        out: Vec::from_slice(alloc, out.bytes())?,
+        err: Vec::from_slice(alloc, err.bytes())?,
+    })
+}
+
+/// A schedule on the configuration that is built, with nothing that fails.
+fn play(alloc: Global, schedule: &[u8]) -> Result<Ran, AllocError> {
+    call(
+        alloc,
+        "play conf",
+        FIRST_CONF,
+        schedule,
+        Vec::new(alloc),
+        Vec::new(alloc),
+    )
+}
+
+const SCHEDULE: &[u8] =
+    b"client 1 INSERT INTO t VALUES (1, 'a')\nclient 1 SELECT v FROM t WHERE k = 1\n";
+
+const TRANSCRIPT: &[u8] =
+    b"decided 1.1\nack 1 1.1\nanswer 1 1.1 ok 1\ndecided 1.2\nack 1 1.2\nanswer 1 1.2 rows 1\nrow 'a'\nend\nlink t - 0 s1 OK 0 rows 1\nhas 1,'a'\n";
+
+/// What a schedule's end tells of an empty table.
+const NOTHING: &[u8] = b"end\nlink t - 0 s1 OK 0 rows 0\n";
+
+/// The answer to a text that is no statement, and the end.
+const SYNTAX: &[u8] =
+    b"answer 1 - err 1064 42000 Syntax error at byte 0\nend\nlink t - 0 s1 OK 0 rows 0\n";
+
+#[test]
+fn schedules_have_their_transcripts(rt: HostRuntime) -> Result<(), Fail> {
+    let alloc = rt.alloc();
+    let table: [(&[u8], &[u8]); 12] = [
+        (b"", NOTHING),
+        (b"\n# a comment \xc3\xa9\n\n#client 1 x\n", NOTHING),
+        (b"client 1 ", SYNTAX),
+        (b"client 1 x\n", SYNTAX),
+        // Keywords stand in capitals, and nothing stands behind a statement.
+        (b"client 1 select v FROM t WHERE k = 1\n", SYNTAX),
+        (b"client 1 SELECT v FROM t WHERE k = 1;\n", SYNTAX),
+        // 21 characters, a backslash, and one past each end of BIGINT.
+        (
+            b"client 1 INSERT INTO t VALUES (1, 'aaaaaaaaaaaaaaaaaaaaa')\n",
+            SYNTAX,
+        ),
+        (b"client 1 INSERT INTO t VALUES (1, 'a\\b')\n", SYNTAX),
+        (
+            b"client 1 SELECT v FROM t WHERE k = 9223372036854775808\n",
+            SYNTAX,
+        ),
+        (
+            b"client 1 SELECT v FROM t WHERE k = -9223372036854775809\n",
+            SYNTAX,
+        ),
+        // Blanks where they may stand, signs, and 20 characters.
+        (
+            b"client 1 INSERT  INTO t   VALUES(  -9223372036854775808  ,'aaaaaaaaaaaaaaaaaaaa'  )\nclient 1 SELECT v FROM t WHERE k=-9223372036854775808",
+            b"decided 1.1\nack 1 1.1\nanswer 1 1.1 ok 1\ndecided 1.2\nack 1 1.2\nanswer 1 1.2 rows 1\nrow 'aaaaaaaaaaaaaaaaaaaa'\nend\nlink t - 0 s1 OK 0 rows 1\nhas -9223372036854775808,'aaaaaaaaaaaaaaaaaaaa'\n",
+        ),
+        // A key that is there already, spelled in another way, and keys in rising order at the end.
+        (
+            b"client 1 INSERT INTO t VALUES (+9223372036854775807, '')\nclient 1 INSERT INTO t VALUES (-0, 'z')\nclient 1 INSERT INTO t VALUES (000, 'y')\nclient 1 SELECT v FROM t WHERE k = 7\n",
+            b"decided 1.1\nack 1 1.1\nanswer 1 1.1 ok 1\ndecided 1.2\nack 1 1.2\nanswer 1 1.2 ok 1\nanswer 1 1.3 err 1062 23000 Duplicate entry '0' for key 'PRIMARY'\ndecided 1.4\nack 1 1.4\nanswer 1 1.4 rows 0\nend\nlink t - 0 s1 OK 0 rows 2\nhas 0,'z'\nhas 9223372036854775807,''\n",
+        ),
+    ];
+    for (schedule, transcript) in table {
+        let ran = play(alloc, schedule)?;
+        assert_eq!(rt; ran.out.as_slice(), transcript);
+        assert_eq!(rt; ran.status, 0);
+        assert_eq!(rt; ran.err.len(), 0);
+    }
+    Ok(())
+}
+
+#[test]
+fn broken_lines_stop_a_schedule(rt: HostRuntime) -> Result<(), Fail> {
+    let alloc = rt.alloc();
+    let table: [(&[u8], &[u8], &[u8]); 6] = [
+        (b"client 1", b"", b"schedule line 1: unknown word\n"),
+        (b"client 2 x\n", b"", b"schedule line 1: unknown word\n"),
+        (b"client  1 x\n", b"", b"schedule line 1: unknown word\n"),
+        (b"\n#\n\xff", b"", b"schedule line 3: unknown word\n"),
+        (b"#\xff\n", b"", b"schedule line 1: unknown word\n"),
+        (
+            b"client 1 x\nstop s1\nclient 1 x\n",
+            b"answer 1 - err 1064 42000 Syntax error at byte 0\n",
+            b"schedule line 2: unknown word\n",
+        ),
+    ];
+    for (schedule, out, err) in table {
+        let ran = play(alloc, schedule)?;
+        assert_eq!(rt; ran.status, 5);
+        assert_eq!(rt; ran.out.as_slice(), out);
+        assert_eq!(rt; ran.err.as_slice(), err);
+    }
+    Ok(())
+}
+
+#[test]
+fn lines_have_a_limit(rt: HostRuntime) -> Result<(), Fail> {
+    let alloc = rt.alloc();
+    let mut schedule = vec![in alloc; b'#'; 65_536]?;
+    assert_eq!(rt; play(alloc, schedule.as_slice())?.status, 0);
+    schedule.push(b'#')?;
+    let ran = play(alloc, schedule.as_slice())?;
+    assert_eq!(rt; ran.status, 5);
+    assert_eq!(rt;
+        ran.err.as_slice(),
+        b"schedule line 1: unknown word\n".as_slice()
+    );
+    let mut empty = vec![in alloc; b'\n'; 1_000_000]?;
+    assert_eq!(rt; play(alloc, empty.as_slice())?.status, 0);
+    empty.push(b'\n')?;
+    let ran = play(alloc, empty.as_slice())?;
+    assert_eq!(rt; ran.status, 5);
+    assert_eq!(rt;
+        ran.err.as_slice(),
+        b"schedule line 1000001: unknown word\n".as_slice()
+    );
+    Ok(())
+}
+
+#[test]
+fn words_and_configurations_have_their_statuses(rt: HostRuntime) -> Result<(), Fail> {
+    let alloc = rt.alloc();
+    let usage: &[u8] =
+        b"usage: spider_local check CONF / play CONF / wire CONF / workload CONF SEED N\n";
+    let other: &[u8] = b"conf: not built\n";
+    let large = vec![in alloc; b'\n'; 1_048_577]?;
+    let table: [(&str, &[u8], u8, &[u8]); 9] = [
+        ("play conf", FIRST_CONF, 0, b""),
+        ("play missing", FIRST_CONF, 1, b"outside fault: conf\n"),
+        ("", FIRST_CONF, 2, usage),
+        ("play", FIRST_CONF, 2, usage),
+        ("play -conf", FIRST_CONF, 2, usage),
+        ("play conf conf", FIRST_CONF, 2, usage),
+        ("check conf", FIRST_CONF, 2, usage),
+        ("play conf", b"", 4, other),
+        ("play conf", large.as_slice(), 4, other),
+    ];
+    for (words, conf, status, err) in table {
+        let ran = call(alloc, words, conf, b"", Vec::new(alloc), Vec::new(alloc))?;
+        assert_eq!(rt; ran.status, status);
+        assert_eq!(rt; ran.err.as_slice(), err);
+        assert_eq!(rt; ran.out.is_empty(), status != 0);
+    }
+    Ok(())
+}
+
+#[test]
+fn one_byte_at_a_time(rt: HostRuntime) -> Result<(), Fail> {
+    let alloc = rt.alloc();
+    let bytes = vec![in alloc; ScriptedCall::AtMost(1); 300]?;
+    let ran = call(
+        alloc,
+        "play conf",
+        FIRST_CONF,
+        SCHEDULE,
+        bytes.clone()?,
+        bytes,
+    )?;
+    assert_eq!(rt; ran.status, 0);
+    assert_eq!(rt; ran.out.as_slice(), TRANSCRIPT);
+    assert_eq!(rt; ran.err.len(), 0);
+    Ok(())
+}
+
+#[test]
+fn a_reading_fails_in_mid_line(rt: HostRuntime) -> Result<(), Fail> {
+    let alloc = rt.alloc();
+    let reads = vec![in alloc; ScriptedCall::AtMost(45), ScriptedCall::Fails]?;
+    let ran = call(
+        alloc,
+        "play conf",
+        FIRST_CONF,
+        SCHEDULE,
+        reads,
+        Vec::new(alloc),
+    )?;
+    assert_eq!(rt; ran.status, 1);
+    assert_eq!(rt; ran.err.as_slice(), b"outside fault: input\n".as_slice());
+    assert_eq!(rt;
+        ran.out.as_slice(),
+        b"decided 1.1\nack 1 1.1\nanswer 1 1.1 ok 1\n".as_slice()
+    );
+    Ok(())
+}
+
+#[test]
+fn each_writing_fails(rt: HostRuntime) -> Result<(), Fail> {
+    let alloc = rt.alloc();
+    for taken in 0..TRANSCRIPT.len() {
+        let mut writes = vec![in alloc; ScriptedCall::AtMost(1); taken]?;
+        writes.push(ScriptedCall::Fails)?;
+        let ran = call(
+            alloc,
+            "play conf",
+            FIRST_CONF,
+            SCHEDULE,
+            Vec::new(alloc),
+            writes,
+        )?;
+        assert_eq!(rt; ran.status, 1);
+        assert_eq!(rt; ran.err.as_slice(), b"outside fault: output\n".as_slice());
+        assert_eq!(rt; ran.out.as_slice(), &TRANSCRIPT[..taken]);
+    }
+    Ok(())
+}

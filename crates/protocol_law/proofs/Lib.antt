@@ -1,0 +1,15 @@
+pub mod Branches
+pub mod Logs
+pub mod Effects
+pub mod Locks
+pub mod Traffic
+pub mod Frames
+pub mod Sending
+pub mod Serving
+pub mod Orderly
+pub mod Matched
+pub mod Serial
+pub mod Waiting
+pub mod Runs
+pub mod Stores
+pub mod Answered

@@ -1,0 +1,9 @@
+pub mod Clients
+pub mod Ends
+pub mod Keys
+pub mod LineWords
+pub mod Outputs
+pub mod Requests
+pub mod Runs
+pub mod Streaming
+pub mod Telling

@@ -1,0 +1,241 @@
+use Rattle.std.proofs.Common.{◌≡◌, Option, subst, ℕ, ◌+◌, ◌<◌, ◌≤◌, ◌++◌, List, [], ◌∷◌, Some, None, Bool, true, false, cond, length, Result, Ok, Err, OnOk, refl, sym, ap, ◌∙◌, append_assoc, arith}
+use Rattle.std.specs.Prelude.{◌==◌, ◌||◌, nat_lt}
+use Rattle.std.proofs.lemmas.List.{append-nil, length-append}
+use Rattle.std.proofs.lemmas.Bool.{false≢true}
+use Rattle.std.specs.Result.{IsErrAnd}
+use Rattle.spider_cli.proofs.LineWords.{NotBroken, line_is_early}
+use Rattle.spider_cli.specs.Playing.{NoEnd, run_from, told_by}
+use Rattle.spider_cli.specs.Shown.{shown}
+use Rattle.spider_cli.specs.declared.world_play.Player.{Player}
+use Rattle.std.proofs.lemmas.Bool.Decides.{nat_tests}
+use Rattle.spider_cli.specs.declared.schedule.LineRule.{LineRule}
+use Rattle.spider_cli.specs.declared.schedule.LineRule.TheVariants.{UnknownWord}
+use Rattle.spider_cli.specs.declared.front_core.Output.{Output}
+use Rattle.spider_cli.specs.World.{World, new_world}
+use Rattle.spider_cli.specs.Transcript.{outputs_text, end_text}
+use Rattle.spider_cli.specs.Spoken.{spoken}
+use Rattle.spider_cli.specs.Schedule.{Line, Passed, Client, Broken, line_of, onto_first, onto_line, first_line, lines_of}
+use Rattle.spider_cli.specs.Run.{Run, after_line, line_does, line_step, spoken_onto, by_step, played_text, run_of, Told, told, end_of, with_front, transcript}
+
+-- WHAT ONE LINE TELLS
+
+pub front_of_line : (text line : List ℕ) (outputs : List Output) (r : Run)
+    → with_front (text ++ outputs_text outputs) (told r) ≡ with_front text (told (after_line (record { line = line; outputs = outputs }) r))
+front_of_line text line outputs r =
+    ap (λ t. record { text = t; refusal = r.refusal })
+    (append_assoc text (outputs_text outputs) (played_text r.played ++ end_of r.refusal r.world)
+    ∙ ap (λ t. text ++ t) (sym (append_assoc (outputs_text outputs) (played_text r.played) (end_of r.refusal r.world))))
+
+-- a line that was played, as the world's step says it
+pub record Stepped (number : ℕ) (w : World) (line text : List ℕ) (v : World) (all : List ℕ) : Type 0 where
+  pub outputs : List Output
+  pub step : line_step number w line ≡ Ok (v, outputs)
+  pub told_all : all ≡ text ++ outputs_text outputs
+
+stepped_by : (text : List ℕ) (r : Result (World × List Output) LineRule) (v : World) (all : List ℕ) → spoken_onto text r ≡ Ok (v, all)
+    → (outputs : List Output) × (r ≡ Ok (v, outputs)) × (all ≡ text ++ outputs_text outputs)
+stepped_by text (Err rule) v all h = absurd (cc)
+stepped_by text (Ok s) v all h =
+    let e : spoken text s ≡ (v, all) = cc in
+    (s.1, ap (λ w. Ok (w, s.1)) (ap (λ (p : World × List ℕ). p.0) e), sym (ap (λ (p : World × List ℕ). p.1) e))
+
+pub stepped : (number : ℕ) (w v : World) (line text all : List ℕ) → spoken_onto text (line_step number w line) ≡ Ok (v, all) → Stepped number w line text v all
+stepped number w v line text all h = let s = stepped_by text (line_step number w line) v all h in record { outputs = s.0; step = s.1; told_all = s.2 }
+
+pub stepped_told : (w v : World) (n : ℕ) (line text all : List ℕ) (lines : List (List ℕ)) → Stepped (n + 1) w line text v all
+    → with_front all (told (run_of v (n + 1) lines)) ≡ with_front text (told (run_of w n (line ∷ lines)))
+unfolding run_of
+stepped_told w v n line text all lines s =
+    ap (λ t. with_front t (told (run_of v (n + 1) lines))) s.told_all ∙ front_of_line text line s.outputs (run_of v (n + 1) lines)
+    ∙ ap (λ x. with_front text (told (by_step line x (n + 1) w (λ u. run_of u (n + 1) lines)))) (sym s.step)
+
+pub broken_told : (w : World) (n : ℕ) (line text : List ℕ) (rule : LineRule) (lines : List (List ℕ)) → line_step (n + 1) w line ≡ Err rule
+    → record { text = text; refusal = Some (n + 1, rule) } ≡ with_front text (told (run_of w n (line ∷ lines)))
+unfolding run_of
+broken_told w n line text rule lines h =
+    ap (λ t. record { text = t; refusal = Some (n + 1, rule) }) (sym (append-nil text))
+    ∙ ap (λ s. with_front text (told (by_step line s (n + 1) w (λ u. run_of u (n + 1) lines)))) (sym h)
+
+-- LIMITS
+
+not_broken : (l : Line) (w : World) (s : World × List Output) → line_does l w ≡ Ok s → NotBroken l
+not_broken Passed w s h = tt
+not_broken (Client text) w s h = tt
+not_broken (Broken rule) w s h = absurd (cc)
+
+-- a line that was played is one of the first million
+pub few : (n : ℕ) (w : World) (line : List ℕ) (s : World × List Output) → line_step n w line ≡ Ok s → n ≤ 1000000
+unfolding line_step
+few n w line s h = line_is_early n line (not_broken (line_of n line) w s h)
+
+long_by : (b c d : Bool) (l : Line) → c ≡ true → cond (b || (c || d)) (Broken UnknownWord) l ≡ Broken UnknownWord
+long_by true c d l h = refl
+long_by false true d l h = refl
+long_by false false d l h = absurd (false≢true h)
+
+line_too_long : (n : ℕ) (line : List ℕ) → 65536 < length line → line_of n line ≡ Broken UnknownWord
+unfolding line_of
+line_too_long n line l = let t : nat_lt 65536 (length line) ≡ true = grind (arith, nat_tests) in long_by (nat_lt 1000000 n) (nat_lt 65536 (length line)) _ _ t
+
+pub too_long : (n : ℕ) (w : World) (line : List ℕ) → 65536 < length line → line_step n w line ≡ Err UnknownWord
+unfolding line_step
+too_long n w line l = ap (λ x. line_does x w) (line_too_long n line l)
+
+pub same_refusal : (text : List ℕ) (n line : ℕ) (r rule : LineRule) (w : Told) → n ≡ line → r ≡ rule → record { text = text; refusal = Some (n, r) } ≡ w → record { text = text; refusal = Some (line, rule) } ≡ w
+same_refusal text n line r rule w e f h = sym (ap (λ m. record { text = text; refusal = Some (m, r) }) e ∙ ap (λ s. record { text = text; refusal = Some (line, s) }) f) ∙ h
+
+-- LINES
+
+pub lines_of-ended : (line rest : List ℕ) → NoEnd line → lines_of (line ++ (10 ∷ rest)) ≡ line ∷ lines_of rest
+unfolding lines_of
+lines_of-ended [] rest h = refl
+lines_of-ended (b ∷ line) rest h = rw h.0 (ap (onto_first b) (lines_of-ended line rest h.1))
+
+pub lines_of-last : (b : ℕ) (line : List ℕ) → NoEnd (b ∷ line) → lines_of (b ∷ line) ≡ (b ∷ line) ∷ []
+unfolding lines_of
+lines_of-last b [] h = rw h.0 refl
+lines_of-last b (c ∷ line) h = rw h.0 (ap (onto_first b) (lines_of-last c line h.1))
+
+-- however the bytes go on, these begin the first line
+pub record Begins (line bytes : List ℕ) : Type 0 where
+  pub more : List ℕ
+  pub others : List (List ℕ)
+  pub are : lines_of bytes ≡ (line ++ more) ∷ others
+
+begins_by : (b : ℕ) (lines : List (List ℕ)) → (more : List ℕ) × (others : List (List ℕ)) × (onto_first b lines ≡ (b ∷ more) ∷ others)
+begins_by b [] = ([], [], refl)
+begins_by b (line ∷ lines) = (line, lines, refl)
+
+pub begins_line : (b : ℕ) (line rest : List ℕ) → NoEnd (b ∷ line) → Begins (b ∷ line) ((b ∷ line) ++ rest)
+unfolding lines_of
+begins_line b [] rest h = let k = begins_by b (lines_of rest) in record { more = k.0; others = k.1; are = rw h.0 k.2 }
+begins_line b (c ∷ line) rest h = let k = begins_line c line rest h.1 in record { more = k.more; others = k.others; are = rw h.0 (ap (onto_first b) k.are) }
+
+pub NoEnd-append : (xs ys : List ℕ) → NoEnd xs → NoEnd ys → NoEnd (xs ++ ys)
+NoEnd-append [] ys h k = k
+NoEnd-append (x ∷ xs) ys h k = (h.0, NoEnd-append xs ys h.1 k)
+
+begins : (line rest : List ℕ) → NoEnd line → 0 < length line → Begins line (line ++ rest)
+begins [] rest h l = absurd (omega arith)
+begins (b ∷ line) rest h l = begins_line b line rest h
+
+-- a line that is longer than allowed, however it goes on
+pub long_told : (w : World) (n : ℕ) (line bytes rest text : List ℕ) → NoEnd (line ++ bytes) → 65536 < length (line ++ bytes)
+    → record { text = text; refusal = Some (n + 1, UnknownWord) } ≡ with_front text (told (run_of w n (lines_of (line ++ (bytes ++ rest)))))
+long_told w n line bytes rest text h l =
+    let k = begins (line ++ bytes) rest h (omega arith) in
+    let longer : 65536 < length ((line ++ bytes) ++ k.more) = (let m = length-append (line ++ bytes) k.more in omega arith) in
+    broken_told w n ((line ++ bytes) ++ k.more) text UnknownWord k.others (too_long (n + 1) w ((line ++ bytes) ++ k.more) longer)
+    ∙ ap (λ ls. with_front text (told (run_of w n ls))) (sym k.are ∙ ap lines_of (append_assoc line bytes rest))
+
+-- THE FIRST LINE OF A PIECE
+
+-- a line that was cut out of bytes
+pub record Cut (bytes line more : List ℕ) : Type 0 where
+  pub no_end : NoEnd line
+  pub are : bytes ≡ line ++ (10 ∷ more)
+
+same_cut : (a b : List ℕ × List ℕ) → Some a ≡ Some b → a ≡ b
+same_cut a b e = cc
+
+cut_first : (b : ℕ) (bytes : List ℕ) (t : Bool) (o : Option (List ℕ × List ℕ)) (line more : List ℕ) → (b == 10) ≡ t → ((l m : List ℕ) → o ≡ Some (l, m) → Cut bytes l m)
+    → cond t (Some ([], bytes)) (onto_line (b ∷ []) o) ≡ Some (line, more) → Cut (b ∷ bytes) line more
+cut_first b bytes true o line more e f h =
+    let both = same_cut ([], bytes) (line, more) h in
+    let none : [] ≡ line = ap (λ (p : List ℕ × List ℕ). p.0) both in
+    let all : bytes ≡ more = ap (λ (p : List ℕ × List ℕ). p.1) both in
+    let end : b ≡ 10 = grind (arith, nat_tests) in
+    record { no_end = subst NoEnd none tt; are = ap (λ x. x ∷ bytes) end ∙ ap (λ x. 10 ∷ x) all ∙ ap (λ x. x ++ (10 ∷ more)) none }
+cut_first b bytes false None line more e f h = absurd (cc)
+cut_first b bytes false (Some cut) line more e f h =
+    let c = f cut.0 cut.1 refl in
+    let both = same_cut (b ∷ cut.0, cut.1) (line, more) h in
+    let l : b ∷ cut.0 ≡ line = ap (λ (p : List ℕ × List ℕ). p.0) both in
+    let m : cut.1 ≡ more = ap (λ (p : List ℕ × List ℕ). p.1) both in
+    record { no_end = subst NoEnd l (e, c.no_end); are = ap (λ x. b ∷ x) c.are ∙ ap (λ x. b ∷ (cut.0 ++ (10 ∷ x))) m ∙ ap (λ x. x ++ (10 ∷ more)) l }
+
+pub cut : (bytes line more : List ℕ) → first_line bytes ≡ Some (line, more) → Cut bytes line more
+cut [] line more h = absurd (cc)
+cut (b ∷ bytes) line more h = cut_first b bytes (b == 10) (first_line bytes) line more refl (λ l m e. cut bytes l m e) h
+
+uncut_first : (b : ℕ) (bytes : List ℕ) (t : Bool) (o : Option (List ℕ × List ℕ)) → (b == 10) ≡ t → (o ≡ None → NoEnd bytes)
+    → cond t (Some ([], bytes)) (onto_line (b ∷ []) o) ≡ None → NoEnd (b ∷ bytes)
+uncut_first b bytes true o e f h = absurd (cc)
+uncut_first b bytes false None e f h = (e, f refl)
+uncut_first b bytes false (Some cut) e f h = absurd (cc)
+
+pub uncut : (bytes : List ℕ) → first_line bytes ≡ None → NoEnd bytes
+uncut [] h = tt
+uncut (b ∷ bytes) h = uncut_first b bytes (b == 10) (first_line bytes) refl (uncut bytes) h
+
+-- PLAYERS
+
+pub both_ok : {T E P Q R : Type 0} (r : Result T E) → OnOk r P → OnOk r Q → (P → Q → R) → OnOk r R
+both_ok (Ok x) p q f = f p q
+both_ok (Err e) p q f = tt
+
+-- a line is ended: p holds it, q is after it
+pub ended_told : (p q : Player) (text all : List ℕ) → NoEnd p.line.items → q.line.items ≡ []
+    → ((lines : List (List ℕ)) → with_front all (told (run_from q lines)) ≡ with_front text (told (run_from p (p.line.items ∷ lines))))
+    → (rest : List ℕ) → with_front all (told_by q rest) ≡ with_front text (told_by p (10 ∷ rest))
+unfolding told_by
+ended_told p q text all n e h rest =
+    ap (λ l. with_front all (told (run_from q (lines_of (l ++ rest))))) e ∙ h (lines_of rest)
+    ∙ ap (λ ls. with_front text (told (run_from p ls))) (sym (lines_of-ended p.line.items rest n))
+
+pub ended_refused : (p : Player) (text : List ℕ) (t : Told) → NoEnd p.line.items
+    → ((lines : List (List ℕ)) → t ≡ with_front text (told (run_from p (p.line.items ∷ lines))))
+    → (rest : List ℕ) → t ≡ with_front text (told_by p (10 ∷ rest))
+unfolding told_by
+ended_refused p text t n h rest =
+    h (lines_of rest) ∙ ap (λ ls. with_front text (told (run_from p ls))) (sym (lines_of-ended p.line.items rest n))
+
+pub grown_told : (p q : Player) (text bytes : List ℕ) → q.line.items ≡ p.line.items ++ bytes → shown q.world ≡ shown p.world → q.number ≡ p.number
+    → (rest : List ℕ) → with_front text (told_by q rest) ≡ with_front text (told_by p (bytes ++ rest))
+unfolding told_by
+grown_told p q text bytes l w n rest =
+    ap (λ bs. with_front text (told (run_of (shown q.world) q.number (lines_of (bs ++ rest))))) l
+    ∙ ap (λ bs. with_front text (told (run_of (shown q.world) q.number (lines_of bs)))) (append_assoc p.line.items bytes rest)
+    ∙ ap (λ v. with_front text (told (run_of v q.number (lines_of (p.line.items ++ (bytes ++ rest)))))) w
+    ∙ ap (λ k. with_front text (told (run_of (shown p.world) k (lines_of (p.line.items ++ (bytes ++ rest)))))) n
+
+pub long_refused : (p : Player) (text bytes : List ℕ) → NoEnd p.line.items → NoEnd bytes → 65536 < length (p.line.items ++ bytes)
+    → (rest : List ℕ) → record { text = text; refusal = Some (p.number + 1, UnknownWord) } ≡ with_front text (told_by p (bytes ++ rest))
+unfolding told_by
+long_refused p text bytes n e l rest = long_told (shown p.world) p.number p.line.items bytes rest text (NoEnd-append p.line.items bytes n e) l
+
+-- a line that was cut out is taken, and then what is left
+pub cut_told : (p : Player) (text : List ℕ) (t all : Told) (left line more rest : List ℕ) → Cut left line more
+    → t ≡ with_front text (told_by p (line ++ (10 ∷ (more ++ rest)))) → with_front text (told_by p (left ++ rest)) ≡ all → t ≡ all
+cut_told p text t all left line more rest c h k =
+    h ∙ ap (λ bs. with_front text (told_by p bs)) (sym (append_assoc line (10 ∷ more) rest)) ∙ ap (λ bs. with_front text (told_by p (bs ++ rest))) (sym c.are) ∙ k
+
+pub fresh_told : (p : Player) → shown p.world ≡ new_world → p.number ≡ 0 → p.line.items ≡ [] → (rest : List ℕ) → told_by p rest ≡ transcript rest
+unfolding told_by transcript
+fresh_told p w n l rest =
+    ap (λ v. told (run_of v p.number (lines_of (p.line.items ++ rest)))) w ∙ ap (λ k. told (run_of new_world k (lines_of (p.line.items ++ rest)))) n ∙ ap (λ bs. told (run_of new_world 0 (lines_of (bs ++ rest)))) l
+
+-- a callee's fault that is passed on
+pub passed_on : {T S F : Type 0} (r : Result T F) (s : Result S F) (e f : F) → IsErrAnd r (λ y. y ≡ e) → s ≡ Err e → r ≡ Err f → s ≡ Err f
+passed_on (Ok x) s e f q h k = absurd q
+passed_on (Err y) s e f q h k = let m : y ≡ f = cc in h ∙ ap Err (sym q ∙ m)
+
+pub nothing_left : (w : World) (n : ℕ) (text all : List ℕ) → all ≡ text ++ end_text w.table → record { text = all; refusal = None } ≡ with_front text (told (run_of w n []))
+unfolding run_of
+nothing_left w n text all e = ap (λ t. record { text = t; refusal = None }) e
+
+last_lines : (line : List ℕ) → NoEnd line → 0 < length line → lines_of (line ++ []) ≡ line ∷ []
+last_lines [] n l = absurd (omega arith)
+last_lines (b ∷ line) n l = ap lines_of (append-nil (b ∷ line)) ∙ lines_of-last b line n
+
+pub last_told : (p : Player) (text : List ℕ) (t : Told) → NoEnd p.line.items → 0 < length p.line.items → t ≡ with_front text (told (run_from p (p.line.items ∷ []))) → t ≡ with_front text (told_by p [])
+unfolding told_by
+last_told p text t n l h = h ∙ ap (λ ls. with_front text (told (run_from p ls))) (sym (last_lines p.line.items n l))
+
+pub none_told : (p : Player) (text : List ℕ) (t : Told) → p.line.items ≡ [] → t ≡ with_front text (told (run_from p [])) → t ≡ with_front text (told_by p [])
+unfolding told_by lines_of
+none_told p text t e h = h ∙ sym (ap (λ bs. with_front text (told (run_from p (lines_of (bs ++ []))))) e)
+
+-- a line that was cut out leaves less
+pub cut_shorter : (left line more : List ℕ) → Cut left line more → length more < length left
+cut_shorter left line more c = let e = ap length c.are in let k = length-append line (10 ∷ more) in omega arith

@@ -1,0 +1,13 @@
+use Rattle.std.proofs.Common.{sym, ◌∙◌}
+use Rattle.spider_cli.proofs.Ends.{writes_front, stops_at}
+use Rattle.spider_cli.proofs.spider_local.Goals as goal
+
+pub returns-clause-prefix : goal.returns-clause-prefix
+returns-clause-prefix g c =
+    writes_front g.F.Files.holds g.F.Files.faults g.I.Source.gives g.I.Source.has_ended g.I.Source.faults g.O.Sink.takes g.O.Sink.faults g.met.I.Source.gives_nothing g.met.O.Sink.takes_nothing
+    _ _ _ _ _ _ _ c.run-how.result c.run-how.ensures
+
+pub returns-clause-refused : goal.returns-clause-refused
+returns-clause-refused g c e =
+    stops_at g.F.Files.holds g.F.Files.faults g.I.Source.gives g.I.Source.has_ended g.I.Source.faults g.O.Sink.takes g.O.Sink.faults g.met.I.Source.gives_nothing g.met.O.Sink.takes_nothing
+    _ _ _ _ _ _ _ c.run-how.result (sym c.status_code.ensures ∙ e) c.run-how.ensures

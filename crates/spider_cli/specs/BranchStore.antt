@@ -1,0 +1,31 @@
+use Rattle.std.specs.Prelude.{ℤ, List, [], ◌∷◌, Option, Some, None, option_to_list, codes}
+use Rattle.std.specs.Ordering.{int_cmp}
+use Rattle.std.specs.BTreeMap.{is_at, insert_entry}
+use Rattle.std.specs.Map.{lookup}
+use Rattle.sql_values.specs.declared.value.Value.{Value}
+use Rattle.sql_values.specs.declared.value.Value.TheVariants as value
+use Rattle.sql_text.specs.declared.link.LinkRequest.{LinkRequest}
+use Rattle.sql_text.specs.declared.link.LinkRequest.TheVariants.{Scan, Put}
+use Rattle.sql_text.specs.declared.link.LinkAnswer.{LinkAnswer}
+use Rattle.sql_text.specs.declared.link.LinkAnswer.TheVariants.{Done, Rows, Refused}
+use Rattle.plain_tables.specs.Table.{Table}
+
+-- the key of a row, the number in its first column
+abbrev pub key_of : List Value → Option ℤ
+key_of [] = None
+key_of (value.Number number ∷ values) = Some number
+key_of (value.Text text ∷ values) = None
+
+-- the row that a remote table has at a key
+abbrev pub row_at : Table → ℤ → Option (List Value)
+row_at table key = lookup (is_at (int_cmp key)) table
+
+-- the row is put under its key, where it has one
+abbrev pub puts : Option ℤ → Table → List Value → Table × LinkAnswer
+puts None table row = (table, Refused 14020 (codes "Type mismatch"))
+puts (Some key) table row = (insert_entry int_cmp table key row, Done 1)
+
+-- a request: the remote table that it leaves, and its answer
+abbrev pub store_step : Table → LinkRequest → Table × LinkAnswer
+store_step table (Scan key) = (table, Rows (option_to_list (row_at table key)))
+store_step table (Put row) = puts (key_of row) table row

@@ -1,0 +1,104 @@
+use Rattle.std.specs.Prelude.{◌≡◌, ℕ, ◌==◌, ◌&&◌, Bool, List, [], ◌∷◌, Option, Some, None, if◌then◌else◌, map, option_to_list}
+use Rattle.std.specs.List.{flat_map}
+use Rattle.my_messages.specs.declared.reply.Reply.{Reply}
+use Rattle.plain_tables.specs.Serial.{Entry, Plain, Transaction, Serial}
+use Rattle.plain_tables.specs.Solo.{new_solo, solo_answers, solo_after}
+use Rattle.spider_cli.specs.declared.front_core.TxNo.{TxNo}
+use Rattle.spider_cli.specs.declared.front_core.Output.{Output}
+use Rattle.spider_cli.specs.declared.front_core.Output.TheVariants.{Send, Decided, Acked, Answer}
+use Rattle.spider_cli.specs.Schedule.{Line, Passed, Client, Broken, words_of}
+use Rattle.spider_cli.specs.Run.{Played, run_of_schedule}
+
+-- WHAT A RUN TELLS OF ITS STATEMENTS
+
+-- the statement that a line's client sends
+abbrev pub sent_by : Line → Option (List ℕ)
+sent_by Passed = None
+sent_by (Client text) = Some text
+sent_by (Broken rule) = None
+
+abbrev pub statement_in : Played → Option (List ℕ)
+statement_in p = sent_by (words_of p.line)
+
+-- the texts of the statements, in order
+abbrev pub statements_of : List Played → List (List ℕ)
+statements_of played = flat_map (λ (p : Played). option_to_list (statement_in p)) played
+
+abbrev pub answers_in : List Output → List Reply
+answers_in [] = []
+answers_in (Answer tx reply ∷ outputs) = reply ∷ answers_in outputs
+answers_in (Send request ∷ outputs) = answers_in outputs
+answers_in (Decided tx ∷ outputs) = answers_in outputs
+answers_in (Acked tx ∷ outputs) = answers_in outputs
+
+-- the answers, in order
+abbrev pub answers_of : List Played → List Reply
+answers_of played = flat_map (λ (p : Played). answers_in p.outputs) played
+
+-- WHAT A RUN TELLS OF ITS TRANSACTIONS
+
+abbrev pub decided_in : List Output → List TxNo
+decided_in [] = []
+decided_in (Decided tx ∷ outputs) = tx ∷ decided_in outputs
+decided_in (Send request ∷ outputs) = decided_in outputs
+decided_in (Acked tx ∷ outputs) = decided_in outputs
+decided_in (Answer tx reply ∷ outputs) = decided_in outputs
+
+-- the decided transactions, in the order of their decisions
+abbrev pub decisions_of : List Played → List TxNo
+decisions_of played = flat_map (λ (p : Played). decided_in p.outputs) played
+
+abbrev pub acked_in : List Output → List TxNo
+acked_in [] = []
+acked_in (Acked tx ∷ outputs) = tx ∷ acked_in outputs
+acked_in (Send request ∷ outputs) = acked_in outputs
+acked_in (Decided tx ∷ outputs) = acked_in outputs
+acked_in (Answer tx reply ∷ outputs) = acked_in outputs
+
+-- the transactions whose commit was acknowledged, in order
+abbrev pub acknowledged_in : List Played → List TxNo
+acknowledged_in played = flat_map (λ (p : Played). acked_in p.outputs) played
+
+abbrev pub is_same_tx : TxNo → TxNo → Bool
+is_same_tx a b = (a.boot == b.boot) && (a.number == b.number)
+
+-- the answers that a statement got in that transaction
+abbrev pub entries_with : TxNo → List ℕ → List Output → List Entry
+entries_with tx text [] = []
+entries_with tx text (Answer None reply ∷ outputs) = entries_with tx text outputs
+entries_with tx text (Answer (Some other) reply ∷ outputs) =
+    if is_same_tx tx other then Plain text reply ∷ entries_with tx text outputs else entries_with tx text outputs
+entries_with tx text (Send request ∷ outputs) = entries_with tx text outputs
+entries_with tx text (Decided other ∷ outputs) = entries_with tx text outputs
+entries_with tx text (Acked other ∷ outputs) = entries_with tx text outputs
+
+abbrev pub entries_by : TxNo → Option (List ℕ) → List Output → List Entry
+entries_by tx None outputs = []
+entries_by tx (Some text) outputs = entries_with tx text outputs
+
+abbrev pub entries_in : TxNo → Played → List Entry
+entries_in tx p = entries_by tx (statement_in p) p.outputs
+
+-- what a transaction did: its statements, each with its answer
+abbrev pub entries_of : TxNo → List Played → List Entry
+entries_of tx played = flat_map (entries_in tx) played
+
+abbrev pub transaction_of : List Played → TxNo → Transaction
+transaction_of played tx = record { boot = tx.boot; number = tx.number; entries = entries_of tx played }
+
+-- the history of a run: its decided transactions, in the order of their decisions
+abbrev pub history_of : List Played → List Transaction
+history_of played = map (transaction_of played) (decisions_of played)
+
+-- THE LAW
+
+-- The run that a schedule names, and plain tables.
+pub record IsPlain (schedule : List ℕ) : Type 0 where
+  -- each answer is a plain session's to the same statements
+  pub answers : answers_of (run_of_schedule schedule).played ≡ solo_answers new_solo (statements_of (run_of_schedule schedule).played)
+  -- the rows at the end are the plain session's
+  pub rows : (run_of_schedule schedule).world.table ≡ (solo_after new_solo (statements_of (run_of_schedule schedule).played)).table
+  -- the decided transactions, in the order of their decisions, are a run of one plain table, which the backend has at the end
+  pub serial : Serial (history_of (run_of_schedule schedule).played) [] (run_of_schedule schedule).world.table
+  -- the acknowledged transactions are the decided ones
+  pub acknowledged : acknowledged_in (run_of_schedule schedule).played ≡ decisions_of (run_of_schedule schedule).played

@@ -1,0 +1,14 @@
+pub mod BranchStore
+pub mod FrontCore
+pub mod History
+pub mod Lines
+pub mod Outcome
+pub mod Playing
+pub mod Run
+pub mod Schedule
+pub mod Showing
+pub mod Shown
+pub mod Spoken
+pub mod Top
+pub mod Transcript
+pub mod World

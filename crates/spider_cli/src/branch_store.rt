@@ -1,0 +1,112 @@
+// The one backend: a map of rows by key.
+ghost use Rattle.std.specs.Prelude.{◌≡◌, [], IfOk, OnErr, length, option_to_list};
+ghost use Rattle.spider_cli.specs.BranchStore.{key_of, row_at, store_step};
+
+use crate::transcript::{push_has, push_number};
+use list_types::Listed;
+use sql_text::{LinkAnswer, LinkRequest};
+use sql_values::{Row, Rows, Text, Value};
+use std::alloc::{AllocError, Global};
+use std::collections::BTreeMap;
+use std::marker::Model;
+
+/// The rows of the remote table t, by key.
+#[derive(Drop)]
+pub struct BranchStore {
+    rows: BTreeMap<i64, Row>,
+}
+
+impl Model for BranchStore {
+    ghost use Rattle.plain_tables.specs.Table.{Table};
+
+    ghost Value = { Table };
+
+    ghost view = { λ s. s.rows.entries };
+}
+
+/// The key of a row, the number in its first column.
+fn key(row: &Row) -> Option<i64>
+    ensures { result ≡ key_of row.now }
+{
+    match row.as_slice() {
+        [Value::Number(number), ..] => Some(*number),
+        _ => None,
+    }
+}
+
+impl BranchStore {
+    /// An empty table. It takes no memory.
+    pub fn new(alloc: Global) -> BranchStore
+        ensures { result ≡ [] }
+    {
+        BranchStore {
+            rows: BTreeMap::new(alloc),
+        }
+    }
+
+    /// Answers one request.
+    pub fn ask(&mut self, alloc: Global, request: LinkRequest) -> Result<LinkAnswer, AllocError>
+        ensures step { IfOk result (λ answer. (self.new, answer) ≡ store_step self.old request) }
+        ensures unchanged { OnErr result (self.new ≡ self.old) }
+    {
+        match request {
+            LinkRequest::Scan { key } => Ok(LinkAnswer::Rows(self.scan(alloc, &key)?)),
+            LinkRequest::Put { row } => match key(&row) {
+                Some(key) => {
+                    self.rows.insert(key, row)?;
+                    Ok(LinkAnswer::Done(1))
+                }
+                None => Ok(LinkAnswer::Refused {
+                    number: 14020,
+                    message: Text::from_str(alloc, "Type mismatch")?,
+                }),
+            },
+        }
+    }
+
+    /// The rows with that key.
+    fn scan(&self, alloc: Global, key: &i64) -> Result<Rows, AllocError>
+        ensures { IfOk result (λ rows. rows ≡ option_to_list (row_at self.now key.now)) }
+    {
+        let mut rows = Listed::new(alloc);
+        let Some(row) = self.rows.get(key) else {
+            return Ok(rows);
+        };
+        rows.push(row.clone()?)?;
+        Ok(rows)
+    }
+
+    /// How many rows there are.
+    fn len(&self) -> usize
+        ensures { result ≡ length self.now }
+    {
+        self.rows.len()
+    }
+}
+
+impl BranchStore {
+    ghost use Rattle.std.specs.Prelude.{◌≡◌, ◌++◌, OnOk};
+    ghost use Rattle.std.specs.List.{flat_map};
+    ghost use Rattle.spider_cli.specs.Transcript.{has_line, end_text};
+
+    /// Adds the lines of the rows, in the order of their keys.
+    fn push_rows(&self, text: &mut Vec<u8>) -> Result<(), AllocError>
+        ensures { OnOk result (text.new.items ≡ text.old.items ++ flat_map has_line self.now) }
+    {
+        for (_, row) in &self.rows {
+            push_has(text, row)?;
+        }
+        Ok(())
+    }
+
+    /// Adds what a schedule's end tells: the link, and its rows in the order of their keys.
+    #[tactic(auto, unfolding(crate::specs::Transcript::end_text))]
+    pub fn push_end(&self, text: &mut Vec<u8>) -> Result<(), AllocError>
+        ensures { OnOk result (text.new.items ≡ text.old.items ++ end_text self.now) }
+    {
+        text.extend_from_slice(b"end\nlink t - 0 s1 OK 0 rows ")?;
+        push_number(text, self.len() as u64)?;
+        text.extend_from_slice(b"\n")?;
+        self.push_rows(text)
+    }
+}
