@@ -1,10 +1,23 @@
-//! Values of the SQL profile, and rows of them.
+//! Values of the SQL profile, rows of them, tables, conditions and expressions.
 //!
 //! A column holds whole numbers (BIGINT) or texts (VARCHAR), never NULL, and a [`Row`] has one [`Value`] for each column of its
-//! table, in order.
+//! table, in order. A [`Literal`] is a value as a statement's text has it: a number may be too large to be stored, and it may be NULL.
+//! [`Cond`] is a condition on rows, as in WHERE, and [`Expr`] an expression, as UPDATE sets a column to.
 #![tactic(auto)]
 
+mod literal;
+mod name;
+mod places;
+mod table;
+mod tree;
 mod value;
 
 pub use list_types::{Bytes, Text};
+pub use literal::{Literal, Literals};
+pub use name::{LONGEST_NAME, Name, is_name_text};
+pub use places::{
+    Interval, Keys, LinkNo, LockMode, PartNo, PartNos, ServerNo, ServerNos, TableNo, Xid, Xids,
+};
+pub use table::{ColumnDef, ColumnDefs, Kind, TableDef, TableDefs};
+pub use tree::{Addend, ColumnName, Comparison, Cond, Expr, Operand};
 pub use value::{Row, Rows, Value};
