@@ -17,6 +17,7 @@ mod reading;
 mod reply;
 mod reply_reader;
 mod row;
+mod session_end;
 mod stage;
 mod utf8;
 
@@ -29,6 +30,7 @@ pub use laws::{
 pub use list_types::Text;
 pub use reply::{Cell, CellRow, CellRows, Column, Columns, Reply};
 pub use reply_reader::ReplyReader;
+pub use session_end::SessionEnd;
 
 #[cfg(test)]
 mod tests;

@@ -226,8 +226,9 @@ written_two n lt = elim (cases_lt n 251) [ inl a ↦ omega (arith, ap length (fo
 written_three : (n : ℕ) → n < 2 ^ 24 → length (lenenc n) ≤ 4
 written_three n lt = elim (cases_lt n (2 ^ 16)) [ inl a ↦ omega (arith, written_two n a) | inr a ↦ omega (arith, ap length (form_of_three n a lt)) ]
 
-written : (n : ℕ) → length (lenenc n) ≤ 9
-written n = elim (cases_lt n (2 ^ 24)) [ inl a ↦ omega (arith, written_three n a) | inr a ↦ omega (arith, ap length (form_of_eight n a)) ]
+-- a number has nine bytes at most
+pub length-lenenc : (n : ℕ) → length (lenenc n) ≤ 9
+length-lenenc n = elim (cases_lt n (2 ^ 24)) [ inl a ↦ omega (arith, written_three n a) | inr a ↦ omega (arith, ap length (form_of_eight n a)) ]
 
 width_is : (first w : ℕ) → width_of first ≡ Some w → (w ≡ 2) ⊎ ((w ≡ 3) ⊎ (w ≡ 8))
 width_is first w e =
@@ -248,7 +249,7 @@ lenenc_shortest n (first ∷ more) fits (inr h) =
     let bound : (w : ℕ) → length more ≡ w → n < 256 ^ w = λ w e. subst (λ (k : ℕ). n < 256 ^ k) e (subst (λ (m : ℕ). m < 256 ^ length more) (sym value) (little_from-lt 0 (length more) more (index_fits more fits.1))) in
     elim (width_is first (length more) h.0) [
       | inl w ↦ let b = bound 2 w in omega (arith, written_two n (omega arith))
-      | inr r ↦ elim r [ inl w ↦ let b = bound 3 w in omega (arith, written_three n (omega arith)) | inr w ↦ omega (arith, written n) ]
+      | inr r ↦ elim r [ inl w ↦ let b = bound 3 w in omega (arith, written_three n (omega arith)) | inr w ↦ omega (arith, length-lenenc n) ]
     ]
 
 -- up to the last byte of a number, one that isn't 0 may stand there

@@ -4,10 +4,12 @@ ghost use Rattle.std.specs.Prelude.{◌≡◌, ◌≤◌, IfSome};
 mod files;
 mod sink;
 mod source;
+mod stream;
 
 pub use files::{MemFile, MemFiles};
 pub use sink::MemSink;
 pub use source::MemSource;
+pub use stream::MemStream;
 
 /// What a call on a form in memory does.
 #[derive(Clone, Copy, Debug, PartialEq, Eq)]

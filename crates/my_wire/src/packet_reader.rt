@@ -1,6 +1,6 @@
 // Packets out of a stream that comes in pieces of any size.
 ghost use Rattle.std.specs.Prelude.{◌≡◌, ◌≢◌, ◌↔◌, ◌≤◌, ◌+◌, ◌++◌, [], List, ℕ, length, drop, OnOk, OnErr, IfOk, IfErr, IfSome, IfNone, IsErrOf};
-ghost use Rattle.my_wire.specs.Packets.{Stream, Found, Wanting, Whole, Refused, first_packet, found, with_held, restarted, after};
+ghost use Rattle.my_wire.specs.Packets.{Stream, Found, packet, most, Wanting, Whole, Refused, first_packet, found, with_held, restarted, after};
 ghost use Rattle.my_wire.specs.declared.packet.WireFault.{WireFault};
 ghost use Rattle.my_wire.specs.declared.packet.WireFault.TheVariants.{NoMemory};
 
@@ -39,6 +39,7 @@ fn first_payload(held: &[u8], expected: u8) -> Result<Option<&[u8]>, WireFault>
     ensures wanting { IfOk result (λ o. IfNone o (first_packet expected held.now ≡ Wanting)) }
     ensures whole { IfOk result (λ o. IfSome o (λ p. first_packet expected held.now ≡ Whole p.now (drop (length p.now + 4) held.now))) }
     ensures within { IfOk result (λ o. IfSome o (λ p. length p.now + 4 ≤ length held.now)) }
+    ensures bytes { IfOk result (λ o. IfSome o (λ p. (held.now ≡ packet expected p.now ++ drop (length p.now + 4) held.now) × (length p.now ≤ most))) }
     ensures refused { IfErr result (λ e. (first_packet expected held.now ≡ Refused e) × (e ≢ NoMemory)) }
 {
     if held.len() < 4 {
@@ -100,6 +101,7 @@ impl PacketReader {
     pub fn next_packet(&mut self) -> Result<Option<Packet>, WireFault>
         ensures wanting { (result ≡ Ok None) ↔ (found self.old ≡ Wanting) }
         ensures whole { IfOk result (λ o. IfSome o (λ p. (found self.old ≡ Whole p.payload self.new.held) × (p.seq ≡ self.old.expected))) }
+        ensures bytes { IfOk result (λ o. IfSome o (λ p. (self.old.held ≡ packet self.old.expected p.payload ++ self.new.held) × (length p.payload ≤ most))) }
         ensures refused { (e : WireFault) → found self.old ≡ Refused e → result ≡ Err e }
         ensures refuses { IfErr result (λ e. (e ≢ NoMemory) → found self.old ≡ Refused e) }
         ensures memory { IsErrOf result NoMemory → (payload : List ℕ) × (rest : List ℕ) × (found self.old ≡ Whole payload rest) }

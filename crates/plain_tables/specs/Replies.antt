@@ -28,6 +28,10 @@ refused_reply number = reply.Err 14006 (codes "HY000") (codes "Backend s1 refuse
 abbrev pub full_reply : Reply
 full_reply = reply.Err 14013 (codes "HY000") (codes "Log full")
 
+-- want of memory
+abbrev pub no_memory_reply : Reply
+no_memory_reply = reply.Err 1037 (codes "HY001") (codes "Out of memory")
+
 -- ROWS
 
 -- the column v of the table t, a VARCHAR(20)

@@ -1,13 +1,20 @@
-use Rattle.std.proofs.Common.{◌≡◌, ℕ, List, [], Option, refl, sym, subst}
+use Rattle.std.proofs.Common.{◌≡◌, ◌⊎◌, inl, inr, ℕ, List, [], Option, Some, None, refl, sym, subst}
+use Rattle.std.specs.Prelude.{IsSome}
+use Rattle.my_wire.specs.Counts.{HasRisen}
+use Rattle.my_messages.specs.declared.session_end.SessionEnd.{SessionEnd}
+use Rattle.my_messages.specs.declared.session_end.SessionEnd.TheVariants as ends
+use Rattle.front_node.specs.Session.{IsOver, sent_to}
 use Rattle.spider_cli.specs.declared.outcome.Object.TheVariants as object
 use Rattle.spider_cli.specs.declared.outcome.Outcome.{Outcome}
 use Rattle.spider_cli.specs.declared.outcome.Outcome.TheVariants as outcome
 use Rattle.spider_cli.specs.declared.world_play.PlayEnd.{PlayEnd}
+use Rattle.spider_cli.specs.declared.world_play.PlayEnd.TheVariants as end
 use Rattle.spider_cli.specs.declared.schedule.LineRule.{LineRule}
 use Rattle.spider_cli.specs.Run.{transcript}
 use Rattle.spider_cli.specs.Playing.{Plays}
+use Rattle.spider_cli.specs.Wire.{Wires}
 use Rattle.spider_cli.specs.Outcome.{code_of}
-use Rattle.spider_cli.specs.Top.{WritesFront, StopsAt, Runs}
+use Rattle.spider_cli.specs.Top.{Form, Play, Wire, form_of, WritesFront, WritesWhole, WiresFront, WiresWhole, IsIdle, FrontBy, WholeBy, StopsAt, IsOther, IsStarted, Does, Runs}
 
 -- What the cases of an outcome have in common.
 
@@ -17,28 +24,168 @@ module _ {F S K : Type 0} (holds : F → List ℕ → Option (List ℕ) → Type
   abbrev Ran : Outcome → Type 0
   Ran how = Runs holds file_faults gives has_ended read_faults takes write_faults words files left source rest sink full how
 
+  abbrev Front : Option Form → Type 0
+  Front form = FrontBy gives has_ended takes source rest sink full form
+
+  abbrev Whole : Option Form → Type 0
+  Whole form = WholeBy gives has_ended takes source rest sink full form
+
+  abbrev Done : Form → Outcome → Type 0
+  Done form how = Does gives has_ended read_faults takes write_faults source rest sink full form how
+
+  abbrev Idle : Type 0
+  Idle = IsIdle gives has_ended takes source rest sink full
+
+  -- A FRONT
+
   played : (how : PlayEnd) → Plays gives has_ended takes source rest sink full how → WritesFront gives has_ended takes source rest sink full
   played how p = record { read = p.read; written = p.written; given = p.given; taken = p.taken; front = p.front }
 
-  idle : (rest ≡ source) × (full ≡ sink) → WritesFront gives has_ended takes source rest sink full
-  idle i = record {
+  wired : (how : SessionEnd) → Wires gives has_ended takes source rest sink full how → WiresFront gives has_ended takes source rest sink full
+  wired how w = record { read = w.read; written = w.written; exchanges = w.exchanges; left = w.rest; given = w.given; taken = w.taken; sent = w.sent; front = w.front; solo = w.solo }
+
+  idle : (form : Option Form) → Idle → Front form
+  idle None i = i
+  idle (Some (Play path)) i = record {
     read = [];
     written = [];
     given = subst (gives source []) (sym i.0) (gives_nothing source);
     taken = subst (takes sink []) (sym i.1) (takes_nothing sink);
     front = ((transcript []).text, refl);
   }
+  idle (Some (Wire path)) i = record {
+    read = [];
+    written = [];
+    exchanges = [];
+    left = [];
+    given = subst (gives source []) (sym i.0) (gives_nothing source);
+    taken = subst (takes sink []) (sym i.1) (takes_nothing sink);
+    sent = record { payloads = []; whole = refl; fit = tt; commands = tt; stays = tt };
+    front = (sent_to [] [], refl);
+    solo = λ few none. refl;
+  }
 
-  -- whatever the outcome, what was written is a front of the transcript
-  pub writes_front : (how : Outcome) → Ran how → WritesFront gives has_ended takes source rest sink full
-  writes_front outcome.Usage r = idle r.2
-  writes_front (outcome.Conf fault) r = idle r.1
-  writes_front (outcome.Fault object.Conf) r = idle r.2
-  writes_front (outcome.Fault object.Input) r = played _ r.2
-  writes_front (outcome.Fault object.Output) r = played _ r.2
-  writes_front outcome.NoMemory r = played _ r.1
-  writes_front outcome.Done r = played _ r.1
-  writes_front (outcome.Refused line rule) r = played _ r.1
+  does_front : (form : Form) (how : Outcome) → Done form how → Front (Some form)
+  does_front (Play path) outcome.Done d = played _ d
+  does_front (Play path) (outcome.Refused line rule) d = played _ d
+  does_front (Play path) (outcome.Fault object.Input) d = played _ d.1
+  does_front (Play path) (outcome.Fault object.Output) d = played _ d.1
+  does_front (Play path) (outcome.Fault object.Conf) d = absurd d
+  does_front (Play path) outcome.NoMemory d = played _ d
+  does_front (Play path) (outcome.Conf fault) d = absurd d
+  does_front (Play path) outcome.Usage d = absurd d
+  does_front (Wire path) outcome.Done d = wired d.0 d.2
+  does_front (Wire path) (outcome.Fault object.Input) d = wired _ d.1
+  does_front (Wire path) (outcome.Fault object.Output) d = wired _ d.1
+  does_front (Wire path) (outcome.Fault object.Conf) d = absurd d
+  does_front (Wire path) outcome.NoMemory d = wired _ d
+  does_front (Wire path) (outcome.Refused line rule) d = absurd d
+  does_front (Wire path) (outcome.Conf fault) d = absurd d
+  does_front (Wire path) outcome.Usage d = absurd d
+
+  did_front : (how : Outcome) (form : Form) → IsStarted holds words files form → Done form how → Front (form_of words)
+  did_front how form s d = subst Front (sym s.form_is) (does_front form how d)
+
+  -- whatever the outcome, what was written is a front
+  pub writes_front : (how : Outcome) → Ran how → Front (form_of words)
+  writes_front outcome.Usage r = idle (form_of words) r.2
+  writes_front (outcome.Conf fault) r = idle (form_of words) r.1
+  writes_front (outcome.Fault object.Conf) r = idle (form_of words) r.2
+  writes_front (outcome.Fault object.Input) r = did_front (outcome.Fault object.Input) r.0 r.1 r.2
+  writes_front (outcome.Fault object.Output) r = did_front (outcome.Fault object.Output) r.0 r.1 r.2
+  writes_front outcome.NoMemory (some, inl i) = idle (form_of words) i
+  writes_front outcome.NoMemory (some, inr d) = did_front outcome.NoMemory d.0 d.1 d.2
+  writes_front outcome.Done r = did_front outcome.Done r.0 r.1 r.2
+  writes_front (outcome.Refused line rule) r = did_front (outcome.Refused line rule) r.0 r.1 r.2
+
+  -- THE STATUS
+
+  whole_by : (form : Form) → Done form outcome.Done → Whole (Some form)
+  whole_by (Play path) p = record { read = p.read; written = p.written; given = p.given; taken = p.taken; whole = (p.done refl).0; ended = (p.done refl).1 }
+  whole_by (Wire path) d =
+      let w = d.2 in
+      record {
+        read = w.read;
+        written = w.written;
+        exchanges = w.exchanges;
+        left = w.rest;
+        how = d.0;
+        given = w.given;
+        taken = w.taken;
+        sent = w.sent;
+        whole = w.whole d.1;
+        solo = w.solo;
+        over = d.1;
+        ends = w.ends;
+      }
+
+  -- status 0 is no other outcome's than a call's that did all
+  pub writes_whole : (how : Outcome) → code_of how ≡ 0 → Ran how → Whole (form_of words)
+  writes_whole outcome.Usage e r = absurd (cc)
+  writes_whole (outcome.Conf fault) e r = absurd (cc)
+  writes_whole (outcome.Fault what) e r = absurd (cc)
+  writes_whole outcome.NoMemory e r = absurd (cc)
+  writes_whole outcome.Done e r = subst Whole (sym r.1.form_is) (whole_by r.0 r.2)
+  writes_whole (outcome.Refused line rule) e r = absurd (cc)
+
+  some_form : {A : Type 0} (o : Option Form) → IsSome o → o ≡ None → A
+  some_form None s e = absurd s
+  some_form (Some form) s e = absurd (cc)
+
+  this_form : {A : Type 0} (o : Option Form) (form : Form) → o ≡ Some form → o ≡ None → A
+  this_form None form f e = absurd (cc)
+  this_form (Some other) form f e = absurd (cc)
+
+  -- words without a form are told so
+  pub usage_is_told : (how : Outcome) → form_of words ≡ None → Ran how → code_of how ≡ 2
+  usage_is_told outcome.Usage e r = refl
+  usage_is_told (outcome.Conf fault) e r = this_form (form_of words) r.0.form r.0.form_is e
+  usage_is_told (outcome.Fault object.Conf) e r = some_form (form_of words) r.0 e
+  usage_is_told (outcome.Fault object.Input) e r = this_form (form_of words) r.0 r.1.form_is e
+  usage_is_told (outcome.Fault object.Output) e r = this_form (form_of words) r.0 r.1.form_is e
+  usage_is_told outcome.NoMemory e r = some_form (form_of words) r.0 e
+  usage_is_told outcome.Done e r = this_form (form_of words) r.0 r.1.form_is e
+  usage_is_told (outcome.Refused line rule) e r = this_form (form_of words) r.0 r.1.form_is e
+
+  pub usage_only : (how : Outcome) → code_of how ≡ 2 → Ran how → form_of words ≡ None
+  usage_only outcome.Usage e r = r.0
+  usage_only (outcome.Conf fault) e r = absurd (cc)
+  usage_only (outcome.Fault what) e r = absurd (cc)
+  usage_only outcome.NoMemory e r = absurd (cc)
+  usage_only outcome.Done e r = absurd (cc)
+  usage_only (outcome.Refused line rule) e r = absurd (cc)
+
+  input_rose : (form : Form) → Done form (outcome.Fault object.Input) → HasRisen (read_faults source) (read_faults rest)
+  input_rose (Play path) d = d.0
+  input_rose (Wire path) d = d.0
+
+  output_rose : (form : Form) → Done form (outcome.Fault object.Output) → HasRisen (write_faults sink) (write_faults full)
+  output_rose (Play path) d = d.0
+  output_rose (Wire path) d = d.0
+
+  -- status 1 comes only where a count rose
+  pub rose : (how : Outcome) → code_of how ≡ 1 → Ran how
+      → HasRisen (file_faults files) (file_faults left) ⊎ HasRisen (read_faults source) (read_faults rest) ⊎ HasRisen (write_faults sink) (write_faults full)
+  rose outcome.Usage e r = absurd (cc)
+  rose (outcome.Conf fault) e r = absurd (cc)
+  rose (outcome.Fault object.Conf) e r = inl r.1
+  rose (outcome.Fault object.Input) e r = inr (inl (input_rose r.0 r.2))
+  rose (outcome.Fault object.Output) e r = inr (inr (output_rose r.0 r.2))
+  rose outcome.NoMemory e r = absurd (cc)
+  rose outcome.Done e r = absurd (cc)
+  rose (outcome.Refused line rule) e r = absurd (cc)
+
+  pub is_other : (how : Outcome) → code_of how ≡ 4 → Ran how → IsOther holds words files
+  is_other outcome.Usage e r = absurd (cc)
+  is_other (outcome.Conf fault) e r = r.0
+  is_other (outcome.Fault what) e r = absurd (cc)
+  is_other outcome.NoMemory e r = absurd (cc)
+  is_other outcome.Done e r = absurd (cc)
+  is_other (outcome.Refused line rule) e r = absurd (cc)
+
+  stopped : (form : Form) (line : ℕ) (rule : LineRule) → Done form (outcome.Refused line rule) → StopsAt gives has_ended takes source rest sink full line rule
+  stopped (Play path) line rule p = record { read = p.read; written = p.written; given = p.given; taken = p.taken; stopped = p.refused line rule refl }
+  stopped (Wire path) line rule d = absurd d
 
   -- status 5 is no other outcome's than a refused line's
   pub stops_at : (how : Outcome) → code_of how ≡ 5 → Ran how → (line : ℕ) × (rule : LineRule) × StopsAt gives has_ended takes source rest sink full line rule
@@ -47,4 +194,4 @@ module _ {F S K : Type 0} (holds : F → List ℕ → Option (List ℕ) → Type
   stops_at (outcome.Fault what) e r = absurd (cc)
   stops_at outcome.NoMemory e r = absurd (cc)
   stops_at outcome.Done e r = absurd (cc)
-  stops_at (outcome.Refused line rule) e r = let p = r.1 in (line, rule, record { read = p.read; written = p.written; given = p.given; taken = p.taken; stopped = p.refused line rule refl })
+  stops_at (outcome.Refused line rule) e r = (line, rule, stopped r.0 line rule r.2)

@@ -5,5 +5,7 @@ pub mod LineWords
 pub mod Outputs
 pub mod Requests
 pub mod Runs
+pub mod Shorts
 pub mod Streaming
 pub mod Telling
+pub mod Wires

@@ -1,28 +1,22 @@
 use Rattle.std.proofs.Common.{◌≡◌, ℕ, zero, suc, ◌+◌, ◌-◌, ◌<◌, ◌++◌, List, [], ◌∷◌, true, false, refl, sym, ap, ◌∙◌, append_assoc, arith}
 use Rattle.std.proofs.lemmas.List.{append-nil}
 use Rattle.sql_text.specs.declared.link.LinkRequest.{LinkRequest}
-use Rattle.spider_cli.specs.declared.front_core.Output.{Output}
-use Rattle.spider_cli.specs.declared.front_core.Output.TheVariants.{Send, Decided, Acked, Answer}
-use Rattle.spider_cli.specs.FrontCore.{sends, is_idle}
+use Rattle.front_core.specs.declared.event.Output.{Output}
+use Rattle.front_core.specs.Core.{work_of, rests}
+use Rattle.front_core.specs.Outputs.{sends}
+use Rattle.front_core.proofs.Sends.{sends-append}
 use Rattle.spider_cli.specs.Transcript.{output_text, outputs_text}
 use Rattle.spider_cli.specs.Spoken.{spoken}
-use Rattle.spider_cli.specs.World.{World, after_outputs, turn, turns}
+use Rattle.spider_cli.specs.World.{World, the_session, after_outputs, turn, turns}
 
 -- WHAT IS GIVEN OUT, ONE LIST AFTER THE OTHER
-
-pub sends-append : (xs ys : List Output) → sends (xs ++ ys) ≡ sends xs ++ sends ys
-sends-append [] ys = refl
-sends-append (Send request ∷ xs) ys = ap (λ rs. request ∷ rs) (sends-append xs ys)
-sends-append (Decided tx ∷ xs) ys = sends-append xs ys
-sends-append (Acked tx ∷ xs) ys = sends-append xs ys
-sends-append (Answer tx reply ∷ xs) ys = sends-append xs ys
 
 pub outputs_text-append : (xs ys : List Output) → outputs_text (xs ++ ys) ≡ outputs_text xs ++ outputs_text ys
 outputs_text-append [] ys = refl
 outputs_text-append (x ∷ xs) ys = ap (λ t. output_text x ++ t) (outputs_text-append xs ys) ∙ sym (append_assoc (output_text x) (outputs_text xs) (outputs_text ys))
 
 -- one more output is passed on
-pub sent_more : (first now next : List LinkRequest) (given : List Output) (output : Output) (request : List LinkRequest)
+pub sent_more : (first now next : List (ℕ × LinkRequest)) (given : List Output) (output : Output) (request : List (ℕ × LinkRequest))
     → now ≡ first ++ sends given → request ≡ sends (output ∷ []) → next ≡ now ++ request → next ≡ first ++ sends (given ++ output ∷ [])
 sent_more first now next given output request e f g =
     g ∙ ap (λ rs. rs ++ request) e ∙ append_assoc first (sends given) request ∙ ap (λ rs. first ++ (sends given ++ rs)) f
@@ -45,17 +39,17 @@ spoken-nothing text w = ap (λ t. (w, t)) (append-nil text)
 
 -- TURNS
 
-pub turns-idle : (most : ℕ) (w : World) → is_idle w.front.work ≡ true → turns most w ≡ (w, [])
+pub turns-idle : (most : ℕ) (w : World) → rests (work_of w.front the_session) ≡ true → turns most w ≡ (w, [])
 unfolding turns
 turns-idle zero w h = refl
 turns-idle (suc most) w h = rw h refl
 
-turns-suc : (most : ℕ) (w : World) → is_idle w.front.work ≡ false → turns (suc most) w ≡ (let t = turn w in after_outputs t.1 (turns most t.0))
+turns-suc : (most : ℕ) (w : World) → rests (work_of w.front the_session) ≡ false → turns (suc most) w ≡ (let t = turn w in after_outputs t.1 (turns most t.0))
 unfolding turns
 turns-suc most w h = rw h refl
 
 -- one more turn
-pub turns-more : (most count : ℕ) (w : World) → count < most → is_idle w.front.work ≡ false → turns (most - count) w ≡ (let t = turn w in after_outputs t.1 (turns (most - (count + 1)) t.0))
+pub turns-more : (most count : ℕ) (w : World) → count < most → rests (work_of w.front the_session) ≡ false → turns (most - count) w ≡ (let t = turn w in after_outputs t.1 (turns (most - (count + 1)) t.0))
 turns-more most count w l h =
     let e : most - count ≡ suc (most - (count + 1)) = omega arith in
     ap (λ n. turns n w) e ∙ turns-suc (most - (count + 1)) w h
@@ -66,7 +60,7 @@ turns-none most count w e = let z : most - count ≡ 0 = omega arith in ap (λ n
   none w = unfold turns in refl
 
 -- the loop over turns
-pub turn_goes_on : (most count : ℕ) (v w : World) (text now : List ℕ) (all : World × List ℕ) → count < most → is_idle w.front.work ≡ false → (v, now) ≡ spoken text (turn w)
+pub turn_goes_on : (most count : ℕ) (v w : World) (text now : List ℕ) (all : World × List ℕ) → count < most → rests (work_of w.front the_session) ≡ false → (v, now) ≡ spoken text (turn w)
     → spoken text (turns (most - count) w) ≡ all → spoken now (turns (most - (count + 1)) v) ≡ all
 turn_goes_on most count v w text now all l h e f =
     let t = turn w in
@@ -75,7 +69,7 @@ turn_goes_on most count v w text now all l h e f =
     same ∙ sym (spoken-after text t.1 (turns (most - (count + 1)) t.0)) ∙ ap (spoken text) (sym (turns-more most count w l h)) ∙ f
 
 -- an idle session ends the loop
-pub turns_end : (most count : ℕ) (w : World) (text : List ℕ) (all : World × List ℕ) → is_idle w.front.work ≡ true → spoken text (turns (most - count) w) ≡ all → (w, text) ≡ all
+pub turns_end : (most count : ℕ) (w : World) (text : List ℕ) (all : World × List ℕ) → rests (work_of w.front the_session) ≡ true → spoken text (turns (most - count) w) ≡ all → (w, text) ≡ all
 turns_end most count w text all h e = sym (spoken-nothing text w) ∙ ap (spoken text) (sym (turns-idle (most - count) w h)) ∙ e
 
 -- so does the last turn

@@ -1,4 +1,4 @@
-use Rattle.std.proofs.Common.{◌≡◌, inl, inr, ℕ, ◌+◌, ◌<◌, ◌≤◌, ◌++◌, List, [], ◌∷◌, true, None, option_to_list, map, refl, sym, ap, ◌∙◌, subst, arith}
+use Rattle.std.proofs.Common.{◌≡◌, inl, inr, ℕ, ◌+◌, ◌<◌, ◌≤◌, ◌++◌, List, [], ◌∷◌, Bool, true, false, None, option_to_list, map, refl, sym, ap, ◌∙◌, subst, arith}
 use Rattle.std.specs.List.{flat_map, AllByRecursion}
 use Rattle.std.proofs.lemmas.Grind.{flat_map-append}
 use Rattle.std.proofs.lemmas.List.{append-nil}
@@ -8,15 +8,17 @@ use Rattle.plain_tables.specs.Exec.{exec}
 use Rattle.plain_tables.specs.Solo.{Solo, solo_answers, solo_after}
 use Rattle.plain_tables.specs.Serial as serial
 use Rattle.plain_tables.specs.Serial.{Entry, Transaction, Follows}
-use Rattle.spider_cli.specs.declared.front_core.TxNo.{TxNo}
-use Rattle.spider_cli.specs.declared.front_core.Output.{Output}
+use Rattle.front_core.specs.declared.event.TxNo.{TxNo}
+use Rattle.front_core.specs.declared.event.Output.{Output}
+use Rattle.front_core.specs.Outputs.{decided_in}
+use Rattle.spider_cli.specs.BranchStore.{AreShort}
 use Rattle.spider_cli.specs.World.{World, client}
 use Rattle.spider_cli.specs.Schedule.{Line, Passed, Client, Broken, words_of, line_of, lines_of}
 use Rattle.spider_cli.specs.Run.{Played, Run, after_line, line_does, line_step, by_step, run_of, run_of_schedule}
-use Rattle.spider_cli.specs.History.{sent_by, statements_of, answers_of, decided_in, decisions_of, acknowledged_in, entries_by, entries_in, entries_of, entries_with, transaction_of, IsPlain}
+use Rattle.spider_cli.specs.History.{sent_by, statements_of, answers_of, decisions_of, acknowledged_in, entries_by, entries_in, entries_of, entries_with, transaction_of, IsPlain}
 use Rattle.spider_cli.proofs.Keys.{IsRising}
 use Rattle.spider_cli.proofs.LineWords.{NotBroken, line_is_words, line_is_early}
-use Rattle.spider_cli.proofs.Clients.{resting, DoesPlain, client_plain}
+use Rattle.spider_cli.proofs.Clients.{quiet, DoesPlain, client_plain}
 
 -- A run does what plain tables do, line by line.
 
@@ -129,33 +131,34 @@ sent_plain drawn table line text outputs left r e d h =
     }
 
 -- one line, and then a run
-line_plain : (l : Line) (drawn number : ℕ) (table : Table) (line : List ℕ) (lines : List (List ℕ)) → line_of number line ≡ l → drawn < number → IsRising table
-    → ((d : ℕ) (t : Table) → d ≤ number → IsRising t → RunsPlain d t (run_of (resting d t) number lines))
-    → RunsPlain drawn table (by_step line (line_does l (resting drawn table)) number (resting drawn table) (λ v. run_of v number lines))
-line_plain Passed drawn number table line lines e few h more =
+line_plain : (l : Line) (was_opened : Bool) (drawn number : ℕ) (table : Table) (line : List ℕ) (lines : List (List ℕ)) → line_of number line ≡ l → drawn < number → IsRising table
+    → AreShort table → ((o : Bool) (d : ℕ) (t : Table) → d ≤ number → IsRising t → AreShort t → RunsPlain d t (run_of (quiet o d t) number lines))
+    → RunsPlain drawn table (by_step line (line_does l (quiet was_opened drawn table)) number (quiet was_opened drawn table) (λ v. run_of v number lines))
+line_plain Passed was_opened drawn number table line lines e few h short more =
     let ok : NotBroken (line_of number line) = subst NotBroken (sym e) tt in
-    passed_plain drawn table line (run_of (resting drawn table) number lines) (sym (line_is_words number line ok) ∙ e) (more drawn table (omega arith) h)
-line_plain (Broken rule) drawn number table line lines e few h more = record { answers = refl; rows = refl; serial = refl; acknowledged = refl; numbers = tt; strangers = λ tx n. refl }
-line_plain (Client text) drawn number table line lines e few h more =
+    passed_plain drawn table line (run_of (quiet was_opened drawn table) number lines) (sym (line_is_words number line ok) ∙ e) (more was_opened drawn table (omega arith) h short)
+line_plain (Broken rule) was_opened drawn number table line lines e few h short more = record { answers = refl; rows = refl; serial = refl; acknowledged = refl; numbers = tt; strangers = λ tx n. refl }
+line_plain (Client text) was_opened drawn number table line lines e few h short more =
     let ok : NotBroken (line_of number line) = subst NotBroken (sym e) tt in
     let early = line_is_early number line ok in
-    let c = client (resting drawn table) text in
-    let d = client_plain drawn table text (omega arith) h in
+    let c = client (quiet was_opened drawn table) text in
+    let d = client_plain was_opened drawn table text (omega arith) h short in
     let most = d.most in
-    let next = more d.after (exec text table).1 (omega arith) d.rising in
+    let next = more true d.after (exec text table).1 (omega arith) d.rising d.short in
     let rest : RunsPlain d.after (exec text table).1 (run_of c.0 number lines) = subst (λ v. RunsPlain d.after (exec text table).1 (run_of v number lines)) (sym d.world) next in
     sent_plain drawn table line text c.1 c.0 (run_of c.0 number lines) (sym (line_is_words number line ok) ∙ e) d rest
 
-run_plain : (lines : List (List ℕ)) (drawn number : ℕ) (table : Table) → drawn ≤ number → IsRising table → RunsPlain drawn table (run_of (resting drawn table) number lines)
+run_plain : (lines : List (List ℕ)) (was_opened : Bool) (drawn number : ℕ) (table : Table) → drawn ≤ number → IsRising table → AreShort table
+    → RunsPlain drawn table (run_of (quiet was_opened drawn table) number lines)
 unfolding run_of line_step
-run_plain [] drawn number table few h = record { answers = refl; rows = refl; serial = refl; acknowledged = refl; numbers = tt; strangers = λ tx n. refl }
-run_plain (line ∷ lines) drawn number table few h =
-    line_plain (line_of (number + 1) line) drawn (number + 1) table line lines refl (omega arith) h (λ d t n k. run_plain lines d (number + 1) t n k)
+run_plain [] was_opened drawn number table few h short = record { answers = refl; rows = refl; serial = refl; acknowledged = refl; numbers = tt; strangers = λ tx n. refl }
+run_plain (line ∷ lines) was_opened drawn number table few h short =
+    line_plain (line_of (number + 1) line) was_opened drawn (number + 1) table line lines refl (omega arith) h short (λ o d t n k s. run_plain lines o d (number + 1) t n k s)
 
 pub every_run_is_plain : (schedule : List ℕ) → IsPlain schedule
 every_run_is_plain schedule =
     let r = run_of_schedule schedule in
-    let h = run_plain (lines_of schedule) 0 0 [] (omega arith) tt in
+    let h = run_plain (lines_of schedule) false 0 0 [] (omega arith) tt tt in
     record {
       answers = h.answers;
       rows = h.rows;

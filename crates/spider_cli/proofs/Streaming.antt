@@ -8,7 +8,8 @@ use Rattle.spider_cli.specs.declared.world_play.PlayFault.TheVariants as fault
 use Rattle.spider_cli.specs.declared.world_play.PlayEnd.{PlayEnd}
 use Rattle.spider_cli.specs.declared.world_play.PlayEnd.TheVariants as end
 use Rattle.spider_cli.specs.Run.{Told, with_front, transcript}
-use Rattle.spider_cli.specs.Playing.{told_by, IsFront, Plays}
+use Rattle.my_wire.specs.Counts.{IsFront}
+use Rattle.spider_cli.specs.Playing.{told_by, Plays}
 use Rattle.spider_cli.specs.Showing.{Shows}
 
 -- What was read and written so far. However the schedule goes on, what is written and what is told from here on is its transcript.

@@ -3,9 +3,10 @@ use Rattle.std.specs.List.{flat_map}
 use Rattle.my_messages.specs.declared.reply.Reply.{Reply}
 use Rattle.plain_tables.specs.Serial.{Entry, Plain, Transaction, Serial}
 use Rattle.plain_tables.specs.Solo.{new_solo, solo_answers, solo_after}
-use Rattle.spider_cli.specs.declared.front_core.TxNo.{TxNo}
-use Rattle.spider_cli.specs.declared.front_core.Output.{Output}
-use Rattle.spider_cli.specs.declared.front_core.Output.TheVariants.{Send, Decided, Acked, Answer}
+use Rattle.front_core.specs.declared.event.TxNo.{TxNo}
+use Rattle.front_core.specs.declared.event.Output.{Output}
+use Rattle.front_core.specs.declared.event.Output.TheVariants.{Send, Await, Decided, Acked, Answer}
+use Rattle.front_core.specs.Outputs.{answers_in, decided_in, acked_in}
 use Rattle.spider_cli.specs.Schedule.{Line, Passed, Client, Broken, words_of}
 use Rattle.spider_cli.specs.Run.{Played, run_of_schedule}
 
@@ -24,36 +25,15 @@ statement_in p = sent_by (words_of p.line)
 abbrev pub statements_of : List Played → List (List ℕ)
 statements_of played = flat_map (λ (p : Played). option_to_list (statement_in p)) played
 
-abbrev pub answers_in : List Output → List Reply
-answers_in [] = []
-answers_in (Answer tx reply ∷ outputs) = reply ∷ answers_in outputs
-answers_in (Send request ∷ outputs) = answers_in outputs
-answers_in (Decided tx ∷ outputs) = answers_in outputs
-answers_in (Acked tx ∷ outputs) = answers_in outputs
-
 -- the answers, in order
 abbrev pub answers_of : List Played → List Reply
 answers_of played = flat_map (λ (p : Played). answers_in p.outputs) played
 
 -- WHAT A RUN TELLS OF ITS TRANSACTIONS
 
-abbrev pub decided_in : List Output → List TxNo
-decided_in [] = []
-decided_in (Decided tx ∷ outputs) = tx ∷ decided_in outputs
-decided_in (Send request ∷ outputs) = decided_in outputs
-decided_in (Acked tx ∷ outputs) = decided_in outputs
-decided_in (Answer tx reply ∷ outputs) = decided_in outputs
-
 -- the decided transactions, in the order of their decisions
 abbrev pub decisions_of : List Played → List TxNo
 decisions_of played = flat_map (λ (p : Played). decided_in p.outputs) played
-
-abbrev pub acked_in : List Output → List TxNo
-acked_in [] = []
-acked_in (Acked tx ∷ outputs) = tx ∷ acked_in outputs
-acked_in (Send request ∷ outputs) = acked_in outputs
-acked_in (Decided tx ∷ outputs) = acked_in outputs
-acked_in (Answer tx reply ∷ outputs) = acked_in outputs
 
 -- the transactions whose commit was acknowledged, in order
 abbrev pub acknowledged_in : List Played → List TxNo
@@ -68,7 +48,8 @@ entries_with tx text [] = []
 entries_with tx text (Answer None reply ∷ outputs) = entries_with tx text outputs
 entries_with tx text (Answer (Some other) reply ∷ outputs) =
     if is_same_tx tx other then Plain text reply ∷ entries_with tx text outputs else entries_with tx text outputs
-entries_with tx text (Send request ∷ outputs) = entries_with tx text outputs
+entries_with tx text (Send server request ∷ outputs) = entries_with tx text outputs
+entries_with tx text (Await server ∷ outputs) = entries_with tx text outputs
 entries_with tx text (Decided other ∷ outputs) = entries_with tx text outputs
 entries_with tx text (Acked other ∷ outputs) = entries_with tx text outputs
 

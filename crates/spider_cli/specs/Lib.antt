@@ -1,5 +1,5 @@
 pub mod BranchStore
-pub mod FrontCore
+pub mod Forms
 pub mod History
 pub mod Lines
 pub mod Outcome
@@ -11,4 +11,6 @@ pub mod Shown
 pub mod Spoken
 pub mod Top
 pub mod Transcript
+pub mod Wire
+pub mod Wiring
 pub mod World

@@ -1,4 +1,5 @@
 use Rattle.std.specs.Prelude.{◌≡◌, ◌≢◌, ℕ, ◌++◌, ◌≤◌, false, ◌==◌, List, [], ◌∷◌, Some, None, length}
+use Rattle.my_wire.specs.Counts.{IsFront}
 use Rattle.spider_cli.specs.declared.catalog.TheConstants.{FIRST_CONF}
 use Rattle.spider_cli.specs.declared.world_play.Player.{Player}
 use Rattle.spider_cli.specs.declared.world_play.PlayEnd.{PlayEnd}
@@ -26,10 +27,6 @@ run_from player lines = run_of (shown player.world) player.number lines
 -- what is told from here on, where these bytes come
 unfoldable pub told_by : Player → List ℕ → Told
 told_by player rest = told (run_from player (lines_of (player.line.items ++ rest)))
-
--- the list begins with these
-abbrev pub IsFront : List ℕ → List ℕ → Type 0
-IsFront xs ys = (rest : List ℕ) × (xs ++ rest ≡ ys)
 
 -- What was read and what was written, and how they hang together: what was written is a front of the transcript of what was read.
 pub record Plays {S K : Type 0} (gives : S → List ℕ → S → Type 0) (has_ended : S → Type 0) (takes : K → List ℕ → K → Type 0) (source left : S) (sink full : K) (how : PlayEnd) : Type 0 where

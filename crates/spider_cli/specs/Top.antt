@@ -1,6 +1,6 @@
-use Rattle.std.specs.Prelude.{◌≡◌, ◌≢◌, ◌⊎◌, ℕ, ◌==◌, ◌&&◌, not, Bool, false, List, [], ◌∷◌, Option, Some, None, IsSome, if◌then◌else◌, codes}
+use Rattle.std.specs.Prelude.{◌≡◌, ◌≢◌, ◌⊎◌, ℕ, ◌==◌, Bool, false, List, [], ◌∷◌, Option, Some, None, IsSome, if◌then◌else◌, codes}
 use Rattle.std.specs.Str.{bytes_eq}
-use Rattle.my_wire.specs.Counts.{HasRisen, TakesFront}
+use Rattle.my_wire.specs.Counts.{HasRisen, TakesFront, IsFront}
 use Rattle.spider_cli.specs.declared.catalog.TheConstants.{FIRST_CONF}
 use Rattle.spider_cli.specs.declared.outcome.Object.TheVariants as object
 use Rattle.spider_cli.specs.declared.outcome.Outcome.{Outcome}
@@ -8,24 +8,44 @@ use Rattle.spider_cli.specs.declared.outcome.Outcome.TheVariants as outcome
 use Rattle.spider_cli.specs.declared.world_play.PlayEnd.TheVariants as end
 use Rattle.spider_cli.specs.declared.schedule.LineRule.{LineRule}
 use Rattle.spider_cli.specs.Run.{transcript}
-use Rattle.spider_cli.specs.Playing.{IsFront, IsPlayed, Plays}
+use Rattle.my_wire.specs.Packets.{first_packet}
+use Rattle.my_messages.specs.declared.session_end.SessionEnd.{SessionEnd}
+use Rattle.my_messages.specs.declared.session_end.SessionEnd.TheVariants as ends
+use Rattle.front_node.specs.Session.{Exchange, Sent, sent_to, EndsBy, IsOver}
+use Rattle.spider_cli.specs.declared.world_play.PlayEnd.{PlayEnd}
+use Rattle.spider_cli.specs.Playing.{Plays}
+use Rattle.spider_cli.specs.Wire.{AreSolo, Wires}
 
 -- THE WORDS
+
+-- what the words ask for: to play a schedule, or to serve one session of packets, on a configuration of that path
+pub data Form : Type 0 where
+  Play : List ℕ → Form
+  Wire : List ℕ → Form
+
+-- the path of the configuration
+abbrev pub path_of : Form → List ℕ
+path_of (Play path) = path
+path_of (Wire path) = path
 
 -- a word that begins with a dash
 abbrev pub has_dash : List ℕ → Bool
 has_dash [] = false
 has_dash (b ∷ bytes) = b == 45
 
--- the file of `play CONF`, where the words are that
-abbrev pub conf_word : List ℕ → List ℕ → Option (List ℕ)
-conf_word word path = if bytes_eq word (codes "play") && not (has_dash path) then Some path else None
+-- the form that a first word and a path make
+abbrev pub word_form : List ℕ → List ℕ → Option Form
+word_form word path =
+    if has_dash path then None
+    else if bytes_eq word (codes "play") then Some (Play path)
+    else if bytes_eq word (codes "wire") then Some (Wire path)
+    else None
 
--- the file that the words name, where they have a form that is built
-abbrev pub form_of : List (List ℕ) → Option (List ℕ)
+-- the form of the words, where they have one that is built
+abbrev pub form_of : List (List ℕ) → Option Form
 form_of [] = None
 form_of (word ∷ []) = None
-form_of (word ∷ path ∷ []) = conf_word word path
+form_of (word ∷ path ∷ []) = word_form word path
 form_of (word ∷ path ∷ other ∷ words) = None
 
 -- ERROR OUTPUT
@@ -62,51 +82,118 @@ module _ {S K : Type 0} (gives : S → List ℕ → S → Type 0) (has_ended : S
     pub taken : takes sink written full
     pub stopped : transcript read ≡ record { text = written; refusal = Some (line, rule) }
 
--- THE CONFIGURATION
+  -- the same of a session of packets: what was written is a front of what the client is sent for its bytes, in which each statement's answer is a plain session's
+  pub record WiresFront : Type 0 where
+    pub read : List ℕ
+    pub written : List ℕ
+    pub exchanges : List Exchange
+    pub left : List ℕ
+    pub given : gives source read rest
+    pub taken : takes sink written full
+    pub sent : Sent read exchanges left
+    pub front : IsFront written (sent_to exchanges left)
+    pub solo : AreSolo exchanges
 
-module _ {F : Type 0} (holds : F → List ℕ → Option (List ℕ) → Type 0) (words : List (List ℕ)) (files : F) where
-  -- the words name a file, which is the one configuration that is built
-  pub record IsStarted : Type 0 where
-    pub path : List ℕ
-    pub form : form_of words ≡ Some path
-    pub conf : holds files path (Some FIRST_CONF.now)
+  -- it is the whole, to the end of the client's bytes, or to the command or the packet that ends the session
+  pub record WiresWhole : Type 0 where
+    pub read : List ℕ
+    pub written : List ℕ
+    pub exchanges : List Exchange
+    pub left : List ℕ
+    pub how : SessionEnd
+    pub given : gives source read rest
+    pub taken : takes sink written full
+    pub sent : Sent read exchanges left
+    pub whole : written ≡ sent_to exchanges left
+    pub solo : AreSolo exchanges
+    pub over : IsOver how
+    pub ends : EndsBy (has_ended rest) (first_packet 0 left) how
 
-  -- the words name a file, which is another, or too large
-  pub record IsOther : Type 0 where
-    pub path : List ℕ
-    pub form : form_of words ≡ Some path
-    pub contents : Option (List ℕ)
-    pub held : holds files path contents
-    pub other : contents ≢ Some FIRST_CONF.now
-
--- THE WHOLE CALL
-
--- how playing on a configuration ended, with its cause
-abbrev pub PlaysConf : {S K : Type 0} → (S → List ℕ → S → Type 0) → (S → Type 0) → (S → ℕ) → (K → List ℕ → K → Type 0) → (K → ℕ) → List ℕ → S → S → K → K → Outcome → Type 0
-PlaysConf gives has_ended read_faults takes write_faults conf source rest sink full outcome.Done = IsPlayed gives has_ended takes conf source rest sink full end.Done
-PlaysConf gives has_ended read_faults takes write_faults conf source rest sink full (outcome.Refused line rule) = IsPlayed gives has_ended takes conf source rest sink full (end.Refused line rule)
-PlaysConf gives has_ended read_faults takes write_faults conf source rest sink full (outcome.Conf fault) = IsPlayed gives has_ended takes conf source rest sink full (end.Conf fault)
-PlaysConf gives has_ended read_faults takes write_faults conf source rest sink full (outcome.Fault object.Input) =
-    HasRisen (read_faults source) (read_faults rest) × IsPlayed gives has_ended takes conf source rest sink full end.ReadFault
-PlaysConf gives has_ended read_faults takes write_faults conf source rest sink full (outcome.Fault object.Output) =
-    HasRisen (write_faults sink) (write_faults full) × IsPlayed gives has_ended takes conf source rest sink full end.WriteFault
-PlaysConf gives has_ended read_faults takes write_faults conf source rest sink full (outcome.Fault object.Conf) = ⊥
-PlaysConf gives has_ended read_faults takes write_faults conf source rest sink full outcome.NoMemory = IsPlayed gives has_ended takes conf source rest sink full end.NoMemory
-PlaysConf gives has_ended read_faults takes write_faults conf source rest sink full outcome.Usage = ⊥
-
-module _ {F S K : Type 0} (holds : F → List ℕ → Option (List ℕ) → Type 0) (file_faults : F → ℕ) (gives : S → List ℕ → S → Type 0) (has_ended : S → Type 0) (read_faults : S → ℕ)
-    (takes : K → List ℕ → K → Type 0) (write_faults : K → ℕ) (words : List (List ℕ)) (files left : F) (source rest : S) (sink full : K) where
   -- nothing was read or written
   abbrev pub IsIdle : Type 0
   IsIdle = (rest ≡ source) × (full ≡ sink)
 
+  -- by the form of the words
+  abbrev pub FrontBy : Option Form → Type 0
+  FrontBy None = IsIdle
+  FrontBy (Some (Play path)) = WritesFront
+  FrontBy (Some (Wire path)) = WiresFront
+
+  abbrev pub WholeBy : Option Form → Type 0
+  WholeBy None = ⊥
+  WholeBy (Some (Play path)) = WritesWhole
+  WholeBy (Some (Wire path)) = WiresWhole
+
+-- THE CONFIGURATION
+
+module _ {F : Type 0} (holds : F → List ℕ → Option (List ℕ) → Type 0) (words : List (List ℕ)) (files : F) where
+  -- the words have this form, and the file that they name is the one configuration that is built
+  pub record IsStarted (form : Form) : Type 0 where
+    pub form_is : form_of words ≡ Some form
+    pub conf : holds files (path_of form) (Some FIRST_CONF.now)
+
+  -- the words name a file, which is another, or too large
+  pub record IsOther : Type 0 where
+    pub form : Form
+    pub form_is : form_of words ≡ Some form
+    pub contents : Option (List ℕ)
+    pub held : holds files (path_of form) contents
+    pub other : contents ≢ Some FIRST_CONF.now
+
+-- THE WHOLE CALL
+
+module _ {S K : Type 0} (gives : S → List ℕ → S → Type 0) (has_ended : S → Type 0) (read_faults : S → ℕ) (takes : K → List ℕ → K → Type 0) (write_faults : K → ℕ)
+    (source rest : S) (sink full : K) where
+  abbrev pub Played : PlayEnd → Type 0
+  Played how = Plays gives has_ended takes source rest sink full how
+
+  -- a session of packets ended so, for one of these reasons
+  abbrev pub Wired : SessionEnd → Type 0
+  Wired how = Wires gives has_ended takes source rest sink full how
+
+  -- what the form asks for, by how it ended, with its cause
+  abbrev pub Does : Form → Outcome → Type 0
+  Does (Play path) outcome.Done = Played end.Done
+  Does (Play path) (outcome.Refused line rule) = Played (end.Refused line rule)
+  Does (Play path) (outcome.Fault object.Input) = HasRisen (read_faults source) (read_faults rest) × Played end.ReadFault
+  Does (Play path) (outcome.Fault object.Output) = HasRisen (write_faults sink) (write_faults full) × Played end.WriteFault
+  Does (Play path) outcome.NoMemory = Played end.NoMemory
+  Does (Play path) (outcome.Fault object.Conf) = ⊥
+  Does (Play path) (outcome.Conf fault) = ⊥
+  Does (Play path) outcome.Usage = ⊥
+  Does (Wire path) outcome.Done = (how : SessionEnd) × IsOver how × Wired how
+  Does (Wire path) (outcome.Fault object.Input) = HasRisen (read_faults source) (read_faults rest) × Wired ends.ClientFault
+  Does (Wire path) (outcome.Fault object.Output) = HasRisen (write_faults sink) (write_faults full) × Wired ends.ClientFault
+  Does (Wire path) outcome.NoMemory = Wired ends.NoMemory
+  Does (Wire path) (outcome.Refused line rule) = ⊥
+  Does (Wire path) (outcome.Fault object.Conf) = ⊥
+  Does (Wire path) (outcome.Conf fault) = ⊥
+  Does (Wire path) outcome.Usage = ⊥
+
+  -- the same on a configuration: refused exactly where it isn't built, and then nothing was read or written
+  abbrev pub DoesOn : List ℕ → Form → Outcome → Type 0
+  DoesOn conf form (outcome.Conf fault) = (conf ≢ FIRST_CONF.now) × IsIdle gives has_ended takes source rest sink full
+  DoesOn conf form outcome.Done = (conf ≡ FIRST_CONF.now) × Does form outcome.Done
+  DoesOn conf form (outcome.Refused line rule) = (conf ≡ FIRST_CONF.now) × Does form (outcome.Refused line rule)
+  DoesOn conf form (outcome.Fault object) = (conf ≡ FIRST_CONF.now) × Does form (outcome.Fault object)
+  DoesOn conf form outcome.NoMemory = (conf ≡ FIRST_CONF.now) × Does form outcome.NoMemory
+  DoesOn conf form outcome.Usage = ⊥
+
+module _ {F S K : Type 0} (holds : F → List ℕ → Option (List ℕ) → Type 0) (file_faults : F → ℕ) (gives : S → List ℕ → S → Type 0) (has_ended : S → Type 0) (read_faults : S → ℕ)
+    (takes : K → List ℕ → K → Type 0) (write_faults : K → ℕ) (words : List (List ℕ)) (files left : F) (source rest : S) (sink full : K) where
+  abbrev Idle : Type 0
+  Idle = IsIdle gives has_ended takes source rest sink full
+
+  abbrev Did : Form → Outcome → Type 0
+  Did form how = IsStarted holds words files form × Does gives has_ended read_faults takes write_faults source rest sink full form how
+
   -- how the call ended, with its cause, and what was read and written by then
   abbrev pub Runs : Outcome → Type 0
-  Runs outcome.Usage = (form_of words ≡ None) × (left ≡ files) × IsIdle
-  Runs (outcome.Conf fault) = IsOther holds words files × IsIdle
-  Runs (outcome.Fault object.Conf) = IsSome (form_of words) × HasRisen (file_faults files) (file_faults left) × IsIdle
-  Runs (outcome.Fault object.Input) = IsStarted holds words files × HasRisen (read_faults source) (read_faults rest) × Plays gives has_ended takes source rest sink full end.ReadFault
-  Runs (outcome.Fault object.Output) = IsStarted holds words files × HasRisen (write_faults sink) (write_faults full) × Plays gives has_ended takes source rest sink full end.WriteFault
-  Runs outcome.NoMemory = IsSome (form_of words) × Plays gives has_ended takes source rest sink full end.NoMemory
-  Runs outcome.Done = IsStarted holds words files × Plays gives has_ended takes source rest sink full end.Done
-  Runs (outcome.Refused line rule) = IsStarted holds words files × Plays gives has_ended takes source rest sink full (end.Refused line rule)
+  Runs outcome.Usage = (form_of words ≡ None) × (left ≡ files) × Idle
+  Runs (outcome.Conf fault) = IsOther holds words files × Idle
+  Runs (outcome.Fault object.Conf) = IsSome (form_of words) × HasRisen (file_faults files) (file_faults left) × Idle
+  Runs (outcome.Fault object.Input) = (form : Form) × Did form (outcome.Fault object.Input)
+  Runs (outcome.Fault object.Output) = (form : Form) × Did form (outcome.Fault object.Output)
+  Runs outcome.NoMemory = IsSome (form_of words) × (Idle ⊎ ((form : Form) × Did form outcome.NoMemory))
+  Runs outcome.Done = (form : Form) × Did form outcome.Done
+  Runs (outcome.Refused line rule) = (form : Form) × Did form (outcome.Refused line rule)

@@ -8,9 +8,9 @@ use Rattle.my_messages.specs.declared.reply.Column.{Column}
 use Rattle.my_messages.specs.declared.reply.Reply.{Reply}
 use Rattle.my_messages.specs.declared.reply.Reply.TheVariants as reply
 use Rattle.plain_tables.specs.Table.{Table}
-use Rattle.spider_cli.specs.declared.front_core.TxNo.{TxNo}
-use Rattle.spider_cli.specs.declared.front_core.Output.{Output}
-use Rattle.spider_cli.specs.declared.front_core.Output.TheVariants.{Send, Decided, Acked, Answer}
+use Rattle.front_core.specs.declared.event.TxNo.{TxNo}
+use Rattle.front_core.specs.declared.event.Output.{Output}
+use Rattle.front_core.specs.declared.event.Output.TheVariants.{Send, Await, Decided, Acked, Answer}
 
 -- a line's end
 abbrev pub line_end : List ℕ
@@ -70,7 +70,8 @@ reply_text (reply.Switch plugin nonce) = []
 
 -- the lines of one output. Requests are not shown
 unfoldable pub output_text : Output → List ℕ
-output_text (Send request) = []
+output_text (Send server request) = []
+output_text (Await server) = []
 output_text (Decided tx) = codes "decided " ++ (tx_text tx ++ line_end)
 output_text (Acked tx) = codes "ack 1 " ++ (tx_text tx ++ line_end)
 output_text (Answer tx reply) = codes "answer 1 " ++ (tx_or_none tx ++ (32 ∷ reply_text reply))

@@ -1,27 +1,33 @@
-use Rattle.std.specs.Prelude.{ℕ, zero, suc, ◌++◌, List, [], ◌∷◌, if◌then◌else◌}
+use Rattle.std.specs.Prelude.{ℕ, zero, suc, ◌++◌, List, [], ◌∷◌, Bool, is_some, if◌then◌else◌}
 use Rattle.sql_text.specs.declared.link.LinkRequest.{LinkRequest}
 use Rattle.sql_text.specs.declared.link.LinkAnswer.{LinkAnswer}
 use Rattle.plain_tables.specs.Table.{Table}
-use Rattle.spider_cli.specs.declared.front_core.FrontState.{FrontState}
-use Rattle.spider_cli.specs.declared.front_core.Event.{Event}
-use Rattle.spider_cli.specs.declared.front_core.Event.TheVariants as event
-use Rattle.spider_cli.specs.declared.front_core.Output.{Output}
-use Rattle.spider_cli.specs.FrontCore.{front_step, sends, new_front, is_idle, answers_awaited}
+use Rattle.front_core.specs.declared.event.Event.{Event}
+use Rattle.front_core.specs.declared.event.Event.TheVariants as event
+use Rattle.front_core.specs.declared.event.Output.{Output}
+use Rattle.front_core.specs.Core.{Front, new_front, front_step, work_of, rests, answers_awaited}
+use Rattle.front_core.specs.Outputs.{sends}
 use Rattle.spider_cli.specs.BranchStore.{store_step}
 
--- the front, the backend's remote table, and the connection between them: requests not yet delivered and answers not yet read, both in order
+-- the number of the one session
+abbrev pub the_session : ℕ
+the_session = 1
+
+-- the front, the backend's remote table, and the connection between them: requests not yet delivered and answers not yet read, both in order, each with
+-- its server
 pub record World : Type 0 where
-  pub front : FrontState
+  pub front : Front
   pub table : Table
-  pub requests : List LinkRequest
-  pub answers : List LinkAnswer
+  pub requests : List (ℕ × LinkRequest)
+  pub answers : List (ℕ × LinkAnswer)
 
 -- the world as it starts
 abbrev pub new_world : World
 new_world = record { front = new_front; table = []; requests = []; answers = [] }
 
--- what happens next: the client's statement comes, the oldest request reaches the backend, or the front reads the oldest answer
+-- what happens next: the session is opened, its client's statement comes, the oldest request reaches its server, or the front reads the oldest answer
 pub data Happening : Type 0 where
+  Open : Happening
   Client : List ℕ → Happening
   Deliver : Happening
   Reply : Happening
@@ -30,21 +36,22 @@ pub data Happening : Type 0 where
 abbrev pub fronts : World → Event → World × List Output
 fronts w e = let s = front_step w.front e in (record { front = s.0; table = w.table; requests = w.requests ++ sends s.1; answers = w.answers }, s.1)
 
--- the oldest request reaches the backend, whose answer waits
-abbrev pub delivered : World → List LinkRequest → World × List Output
+-- the oldest request reaches its server, whose answer waits
+abbrev pub delivered : World → List (ℕ × LinkRequest) → World × List Output
 delivered w [] = (w, [])
-delivered w (request ∷ requests) =
-    let b = store_step w.table request in
-    (record { front = w.front; table = b.0; requests = requests; answers = w.answers ++ (b.1 ∷ []) }, [])
+delivered w (oldest ∷ requests) =
+    let b = store_step w.table oldest.1 in
+    (record { front = w.front; table = b.0; requests = requests; answers = w.answers ++ (oldest.0, b.1) ∷ [] }, [])
 
 -- the front reads the oldest answer
-abbrev pub replied : World → List LinkAnswer → World × List Output
+abbrev pub replied : World → List (ℕ × LinkAnswer) → World × List Output
 replied w [] = (w, [])
-replied w (answer ∷ answers) = fronts (record { front = w.front; table = w.table; requests = w.requests; answers = answers }) (event.Got answer)
+replied w (oldest ∷ answers) = fronts (record { front = w.front; table = w.table; requests = w.requests; answers = answers }) (event.Got the_session oldest.0 oldest.1)
 
 -- the world after a happening, and what the front gave out
 abbrev pub happens : World → Happening → World × List Output
-happens w (Client text) = fronts w (event.Statement text)
+happens w Open = fronts w (event.Open the_session)
+happens w (Client text) = fronts w (event.Statement the_session text)
 happens w Deliver = delivered w w.requests
 happens w Reply = replied w w.answers
 
@@ -59,8 +66,20 @@ turn w = let d = happens w Deliver in after_outputs d.1 (happens d.0 Reply)
 -- turns until the session is idle, at most so many
 unfoldable pub turns : ℕ → World → World × List Output
 turns zero w = (w, [])
-turns (suc most) w = if is_idle w.front.work then (w, []) else (let t = turn w in after_outputs t.1 (turns most t.0))
+turns (suc most) w = if rests (work_of w.front the_session) then (w, []) else (let t = turn w in after_outputs t.1 (turns most t.0))
 
--- a client's line: the statement, and then turns until the session is idle
+-- the session is open
+abbrev pub is_open : World → Bool
+is_open w = is_some (work_of w.front the_session)
+
+-- a session that isn't open is opened first
+abbrev pub with_session : World → World × List Output
+with_session w = if is_open w then (w, []) else happens w Open
+
+-- a statement, and then turns until the session is idle
+abbrev pub runs : World → List ℕ → World × List Output
+runs w text = let s = happens w (Client text) in after_outputs s.1 (turns (answers_awaited (work_of s.0.front the_session)) s.0)
+
+-- a client's line
 unfoldable pub client : World → List ℕ → World × List Output
-client w text = let s = happens w (Client text) in after_outputs s.1 (turns (answers_awaited s.0.front.work) s.0)
+client w text = let o = with_session w in after_outputs o.1 (runs o.0 text)

@@ -1,11 +1,13 @@
 // The one backend: a map of rows by key.
-ghost use Rattle.std.specs.Prelude.{◌≡◌, [], IfOk, OnErr, length, option_to_list};
-ghost use Rattle.spider_cli.specs.BranchStore.{key_of, row_at, store_step};
+ghost use Rattle.std.specs.Prelude.{◌≡◌, [], Some, IfOk, OnErr, length, option_to_list};
+ghost use Rattle.spider_cli.specs.BranchStore.{key_of, row_at, mismatch, puts, store_step};
 
 use crate::transcript::{push_has, push_number};
+use front_core::is_short_row;
+use front_node::Backs;
 use list_types::Listed;
 use sql_text::{LinkAnswer, LinkRequest};
-use sql_values::{Row, Rows, Text, Value};
+use sql_values::{Row, Rows, ServerNo, Text, Value};
 use std::alloc::{AllocError, Global};
 use std::collections::BTreeMap;
 use std::marker::Model;
@@ -18,10 +20,13 @@ pub struct BranchStore {
 
 impl Model for BranchStore {
     ghost use Rattle.plain_tables.specs.Table.{Table};
+    ghost use Rattle.spider_cli.specs.BranchStore.{AreShort};
 
     ghost Value = { Table };
 
     ghost view = { λ s. s.rows.entries };
+
+    ghost invariant = { λ s. AreShort s.rows.entries };
 }
 
 /// The key of a row, the number in its first column.
@@ -32,6 +37,16 @@ fn key(row: &Row) -> Option<i64>
         [Value::Number(number), ..] => Some(*number),
         _ => None,
     }
+}
+
+/// A row that the table can't hold.
+fn refused(alloc: Global) -> Result<LinkAnswer, AllocError>
+    ensures { IfOk result (λ answer. answer ≡ mismatch) }
+{
+    Ok(LinkAnswer::Refused {
+        number: 14020,
+        message: Text::from_str(alloc, "Type mismatch")?,
+    })
 }
 
 impl BranchStore {
@@ -52,16 +67,22 @@ impl BranchStore {
         match request {
             LinkRequest::Scan { key } => Ok(LinkAnswer::Rows(self.scan(alloc, &key)?)),
             LinkRequest::Put { row } => match key(&row) {
-                Some(key) => {
-                    self.rows.insert(key, row)?;
-                    Ok(LinkAnswer::Done(1))
-                }
-                None => Ok(LinkAnswer::Refused {
-                    number: 14020,
-                    message: Text::from_str(alloc, "Type mismatch")?,
-                }),
+                Some(key) => self.put(alloc, key, row),
+                None => refused(alloc),
             },
         }
+    }
+
+    /// Puts a row under its key.
+    fn put(&mut self, alloc: Global, key: i64, row: Row) -> Result<LinkAnswer, AllocError>
+        ensures step { IfOk result (λ answer. (self.new, answer) ≡ puts (Some key) self.old row) }
+        ensures unchanged { OnErr result (self.new ≡ self.old) }
+    {
+        if !is_short_row(&row) {
+            return refused(alloc);
+        }
+        self.rows.insert(key, row)?;
+        Ok(LinkAnswer::Done(1))
     }
 
     /// The rows with that key.
@@ -108,5 +129,22 @@ impl BranchStore {
         push_number(text, self.len() as u64)?;
         text.extend_from_slice(b"\n")?;
         self.push_rows(text)
+    }
+}
+
+impl Backs for BranchStore {
+    ghost use Rattle.std.specs.Prelude.{◌≡◌};
+    ghost use Rattle.spider_cli.specs.BranchStore.{store_step};
+
+    ghost asks = { λ s server request answer t. (t, answer) ≡ store_step s request };
+
+    fn ask(
+        &mut self,
+        alloc: Global,
+        server: ServerNo,
+        request: &LinkRequest,
+    ) -> Result<LinkAnswer, AllocError> {
+        let _server = server;
+        BranchStore::ask(self, alloc, request.clone()?)
     }
 }

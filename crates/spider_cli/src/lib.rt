@@ -1,59 +1,79 @@
 //! The program `spider_local`: its top call.
 //!
-//! [`spider_local`] does what the command's words say, over any files, input, output and error output. Of the forms of the words
-//! `play CONF` is built: it plays the schedule on the input, with the front, the backend and what lies between in memory, and writes
-//! the transcript. CONF has to be the one configuration that is built, [`FIRST_CONF`].
+//! [`spider_local`] does what the command's words say, over any files, input, output and error output. Of the forms of the words two
+//! are built. `play CONF` plays the schedule on the input, with the front, the backend and what lies between in memory, and writes
+//! the transcript. `wire CONF` serves one session of packets of the MySQL protocol, from the first command on, between the input and the output.
+//! CONF has to be the one configuration that is built, [`FIRST_CONF`].
 //!
 //! The way of a line: `world_play` cuts it out of the input, `schedule` reads it, `world` hands its statement to `front_core` and
 //! that one's requests to `branch_store`, and `transcript` writes what the front gave out. `laws` states what the definitions
 //! say of one another: each answer is a plain session's, and the decided transactions are a serial history of one plain table.
 #![tactic(auto)]
 
-ghost use Rattle.std.specs.Prelude.{◌≡◌, ◌↔◌, ◌⊎◌, None, map, string_bytes, List, ℕ};
+ghost use Rattle.std.specs.Prelude.{◌≡◌, ◌↔◌, ◌⊎◌, None, map, string_bytes, List, ℕ, option_map};
 ghost use Rattle.my_wire.specs.Counts.{HasRisen};
-ghost use Rattle.std.specs.Option.{option_copied};
 ghost use Rattle.spider_cli.specs.History.{IsPlain};
 ghost use Rattle.spider_cli.specs.Outcome.{code_of, text_of};
-ghost use Rattle.spider_cli.specs.Top.{form_of, Runs, PlaysConf, Says, WritesFront, WritesWhole, StopsAt, IsStarted, IsOther};
+ghost use Rattle.spider_cli.specs.Top.{Play, Wire, form_of, word_form, path_of, DoesOn, Runs, Says, FrontBy, WholeBy, StopsAt, IsOther};
+ghost use Rattle.spider_cli.specs.Forms.{form_view};
 ghost use Rattle.spider_cli.specs.declared.outcome.Outcome.{Outcome};
 ghost use Rattle.spider_cli.specs.declared.schedule.LineRule.{LineRule};
 
 mod branch_store;
 mod catalog;
-mod front_core;
 mod laws;
 mod outcome;
-mod replies;
 mod schedule;
 mod transcript;
+mod wire_play;
 mod world;
 mod world_play;
 
-use catalog::ConfFault;
+use catalog::{ConfFault, is_built};
 pub use catalog::FIRST_CONF;
 use laws::is_plain;
-use my_wire::{Files, FilesFault, Sink, Source, Status};
+use my_wire::{End, Files, FilesFault, Sink, Source, Status};
 use outcome::{Object, Outcome, say, status_code};
 use std::alloc::Global;
+use wire_play::{WireEnd, wire};
 use world_play::{PlayEnd, play};
 
-/// The file of `play CONF`, where the words are that.
-fn conf_word(words: &[String]) -> Option<&str>
-    ensures { option_copied result ≡ form_of (map string_bytes words.now) }
+/// What the words ask for, with the path of the configuration.
+#[derive(Clone, Copy)]
+enum Form<'a> {
+    /// To play the schedule on the input.
+    Play(&'a str),
+    /// To serve one session of packets, between the input and the output.
+    Wire(&'a str),
+}
+
+/// The form of a first word and a path.
+fn word_form<'a>(word: &str, path: &'a str) -> Option<Form<'a>>
+    ensures { option_map form_view result ≡ word_form word.now path.now }
 {
-    let [word, path] = words else {
+    if path.as_bytes().starts_with(b"-") {
         return None;
-    };
-    if word.as_str() == "play" && !path.as_str().as_bytes().starts_with(b"-") {
-        Some(path.as_str())
-    } else {
-        None
+    }
+    match word {
+        "play" => Some(Form::Play(path)),
+        "wire" => Some(Form::Wire(path)),
+        _ => None,
+    }
+}
+
+/// The form of the words, where they have one.
+fn form_of(words: &[String]) -> Option<Form<'_>>
+    ensures { option_map form_view result ≡ form_of (map string_bytes words.now) }
+{
+    match words {
+        [word, path] => word_form(word.as_str(), path.as_str()),
+        _ => None,
     }
 }
 
 /// Plays the input on a configuration.
-fn play_conf<I: Source, O: Sink>(alloc: Global, conf: &[u8], input: &mut I, out: &mut O) -> Outcome
-    ensures { PlaysConf I.gives I.has_ended I.faults O.takes O.faults conf.now input.old input.new out.old out.new result }
+fn play_on<I: Source, O: Sink>(alloc: Global, conf: &[u8], input: &mut I, out: &mut O) -> Outcome
+    ensures { (path : List ℕ) → DoesOn I.gives I.has_ended I.faults O.takes O.faults input.old input.new out.old out.new conf.now (Play path) result }
 {
     match play(alloc, conf, input, out) {
         PlayEnd::Done => Outcome::Done,
@@ -62,6 +82,47 @@ fn play_conf<I: Source, O: Sink>(alloc: Global, conf: &[u8], input: &mut I, out:
         PlayEnd::ReadFault => Outcome::Fault(Object::Input),
         PlayEnd::WriteFault => Outcome::Fault(Object::Output),
         PlayEnd::NoMemory => Outcome::NoMemory,
+    }
+}
+
+/// Serves one session of packets on a configuration.
+fn wire_on<I: Source, O: Sink>(alloc: Global, conf: &[u8], input: &mut I, out: &mut O) -> Outcome
+    ensures { (path : List ℕ) → DoesOn I.gives I.has_ended I.faults O.takes O.faults input.old input.new out.old out.new conf.now (Wire path) result }
+{
+    if !is_built(conf) {
+        return Outcome::Conf(ConfFault::NotBuilt);
+    }
+    match wire(alloc, input, out) {
+        WireEnd::Done => Outcome::Done,
+        WireEnd::Failed(End::Source) => Outcome::Fault(Object::Input),
+        WireEnd::Failed(End::Sink) => Outcome::Fault(Object::Output),
+        WireEnd::NoMemory => Outcome::NoMemory,
+    }
+}
+
+/// Does what the form asks for, on a configuration.
+fn carry_out<I: Source, O: Sink>(
+    alloc: Global,
+    form: Form<'_>,
+    conf: &[u8],
+    input: &mut I,
+    out: &mut O,
+) -> Outcome
+    ensures { DoesOn I.gives I.has_ended I.faults O.takes O.faults input.old input.new out.old out.new conf.now (form_view form) result }
+{
+    match form {
+        Form::Play(_path) => play_on(alloc, conf, input, out),
+        Form::Wire(_path) => wire_on(alloc, conf, input, out),
+    }
+}
+
+/// The path of the configuration.
+fn path_of<'a>(form: Form<'a>) -> &'a str
+    ensures { result.now ≡ path_of (form_view form) }
+{
+    match form {
+        Form::Play(path) => path,
+        Form::Wire(path) => path,
     }
 }
 
@@ -75,11 +136,11 @@ fn run<F: Files, I: Source, O: Sink>(
 ) -> Outcome
     ensures { Runs F.holds F.faults I.gives I.has_ended I.faults O.takes O.faults (map string_bytes words.now) files.old files.new input.old input.new out.old out.new result }
 {
-    let Some(path) = conf_word(words) else {
+    let Some(form) = form_of(words) else {
         return Outcome::Usage;
     };
-    match files.read_file(alloc, path) {
-        Ok(conf) => play_conf(alloc, conf.as_slice(), input, out),
+    match files.read_file(alloc, path_of(form)) {
+        Ok(conf) => carry_out(alloc, form, conf.as_slice(), input, out),
         Err(FilesFault::TooLarge) => Outcome::Conf(ConfFault::NotBuilt),
         Err(FilesFault::Failed) => Outcome::Fault(Object::Conf),
         Err(FilesFault::NoMemory) => Outcome::NoMemory,
@@ -99,11 +160,12 @@ pub fn spider_local<F: Files, I: Source, O: Sink, E: Sink>(
     out: &mut O,
     err: &mut E,
 ) -> Status
-    // What is written is always a front of the transcript of what was read.
-    ensures prefix { WritesFront I.gives I.has_ended O.takes input.old input.new out.old out.new }
+    // What is written is always a front: of the transcript of the schedule that was read, or of what the client of a session of packets is sent for
+    // its bytes, in which the statements' answers are a plain session's.
+    ensures prefix { FrontBy I.gives I.has_ended O.takes input.old input.new out.old out.new (form_of (map string_bytes words.now)) }
 
-    // Status 0: it is the whole, of a schedule that was read to its end.
-    ensures done { result.code ≡ 0 → WritesWhole I.gives I.has_ended O.takes input.old input.new out.old out.new }
+    // Status 0: it is the whole, of a schedule that was read to its end, or of a session to its end.
+    ensures done { result.code ≡ 0 → WholeBy I.gives I.has_ended O.takes input.old input.new out.old out.new (form_of (map string_bytes words.now)) }
 
     // Status 1 comes only where a count rose, 4 only where the file that the words name is another than the one that is built, and 5 only at
     // the first line that breaks a rule. Status 2 says exactly that the words have no form.

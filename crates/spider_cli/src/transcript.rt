@@ -4,8 +4,7 @@ ghost use Rattle.std.specs.Fmt.{decimal, signed_decimal};
 ghost use Rattle.std.specs.List.{flat_map};
 ghost use Rattle.spider_cli.specs.Transcript.{line_end, tx_text, tx_or_none, cell_text, cells_text, row_line, value_text, next_value, values_text, has_line, reply_text, output_text};
 
-use crate::front_core::{Output, TxNo};
-use crate::replies::VARCHAR;
+use front_core::{Output, TxNo, VARCHAR};
 use itoa::Buffer;
 use my_messages::{Cell, CellRow, Column, Reply};
 use sql_text::push_quoted;
@@ -174,7 +173,7 @@ pub fn push_output(text: &mut Vec<u8>, output: &Output) -> Result<(), AllocError
     ensures { OnOk result (text.new.items ≡ text.old.items ++ output_text output.now) }
 {
     match output {
-        Output::Send { .. } => Ok(()),
+        Output::Send { .. } | Output::Await { .. } => Ok(()),
         Output::Decided { tx } => {
             text.extend_from_slice(b"decided ")?;
             push_tx(text, *tx)?;

@@ -1,16 +1,20 @@
 // The front, the backend and the connection between them, in one.
 ghost use Rattle.std.specs.Prelude.{◌≡◌, ◌++◌, ◌∷◌, [], OnOk, option_to_list};
-ghost use Rattle.spider_cli.specs.FrontCore.{sends};
+ghost use Rattle.front_core.specs.Outputs.{sends};
 ghost use Rattle.spider_cli.specs.Transcript.{outputs_text};
 
 use crate::branch_store::BranchStore;
-use crate::front_core::{Event, FrontState, Output, Outputs};
 use crate::schedule::{Line, LineRule, read_line};
 use crate::transcript::push_output;
-use list_types::Bytes;
+use front_core::{Event, FrontState, Output, Outputs};
+use list_types::{Bytes, Listed};
 use sql_text::{LinkAnswer, LinkRequest};
+use sql_values::ServerNo;
 use std::alloc::{AllocError, Global};
 use std::collections::VecDeque;
+
+/// The number of the one session.
+const SESSION: u32 = 1;
 
 /// Why a line wasn't played.
 #[derive(Clone, Copy, Debug, PartialEq, Eq)]
@@ -26,16 +30,17 @@ pub enum StepFault {
 pub struct World {
     pub front: FrontState,
     pub store: BranchStore,
-    pub requests: VecDeque<LinkRequest>,
-    pub answers: VecDeque<LinkAnswer>,
+    pub requests: VecDeque<(ServerNo, LinkRequest)>,
+    pub answers: VecDeque<(ServerNo, LinkAnswer)>,
 }
 
-/// The request that an output is, where it is one.
-fn request_of(output: Output) -> Option<LinkRequest>
+/// The request that an output is, with its server, where it is one.
+fn request_of(output: Output) -> Option<(ServerNo, LinkRequest)>
     ensures { option_to_list result ≡ sends (output ∷ []) }
 {
     match output {
-        Output::Send { request } => Some(request),
+        Output::Send { server, request } => Some((server, request)),
+        Output::Await { server: _server } => None,
         Output::Decided { tx: _tx } => None,
         Output::Acked { tx: _tx } => None,
         Output::Answer {
@@ -47,8 +52,8 @@ fn request_of(output: Output) -> Option<LinkRequest>
 
 /// Passes a request on to the connection.
 fn send(
-    request: Option<LinkRequest>,
-    requests: &mut VecDeque<LinkRequest>,
+    request: Option<(ServerNo, LinkRequest)>,
+    requests: &mut VecDeque<(ServerNo, LinkRequest)>,
 ) -> Result<(), AllocError>
     ensures { OnOk result (requests.new.items ≡ requests.old.items ++ option_to_list request) }
 {
@@ -63,8 +68,8 @@ fn send(
 
 /// Adds the lines of what the front gave out, and passes the requests among it on to the connection.
 fn pass_on(
-    given: Outputs,
-    requests: &mut VecDeque<LinkRequest>,
+    given: Listed<Output>,
+    requests: &mut VecDeque<(ServerNo, LinkRequest)>,
     text: &mut Vec<u8>,
 ) -> Result<(), AllocError>
     ensures sent { OnOk result (requests.new.items ≡ requests.old.items ++ sends given) }
@@ -79,7 +84,7 @@ fn pass_on(
 
 impl World {
     ghost use Rattle.std.specs.Prelude.{◌≡◌, ◌+◌, ◌^◌, ◌<◌, ◌≤◌, true, IfOk, OnOk, [], ◌++◌};
-    ghost use Rattle.spider_cli.specs.World.{Deliver, Reply, Client, happens, fronts, turn, turns, client, new_world};
+    ghost use Rattle.spider_cli.specs.World.{Deliver, Reply, happens, fronts, turn, turns, with_session, runs, client, new_world};
     ghost use Rattle.spider_cli.specs.Spoken.{spoken};
     ghost use Rattle.spider_cli.specs.Shown.{shown};
 
@@ -88,7 +93,7 @@ impl World {
         ensures { shown result ≡ new_world }
     {
         World {
-            front: FrontState::start(),
+            front: FrontState::start(alloc),
             store: BranchStore::new(alloc),
             requests: VecDeque::new(alloc),
             answers: VecDeque::new(alloc),
@@ -96,31 +101,43 @@ impl World {
     }
 
     /// The front makes an event.
-    fn event(&mut self, alloc: Global, event: Event, text: &mut Vec<u8>) -> Result<(), AllocError>
+    fn event(&mut self, event: Event, text: &mut Vec<u8>) -> Result<(), AllocError>
         ensures { OnOk result ((shown self.new, text.new.items) ≡ spoken text.old.items (fronts (shown self.old) event)) }
     {
-        let given = self.front.step(alloc, event)?;
-        pass_on(given, &mut self.requests, text)
+        match self.front.step(event) {
+            Outputs::Given(given) => pass_on(given, &mut self.requests, text),
+            Outputs::NoRoom => Err(AllocError),
+        }
     }
 
     /// The oldest request reaches the backend, whose answer waits.
     fn deliver(&mut self, alloc: Global) -> Result<(), AllocError>
         ensures { OnOk result ((shown self.new, []) ≡ happens (shown self.old) Deliver) }
     {
-        let Some(request) = self.requests.pop_front() else {
+        let Some((server, request)) = self.requests.pop_front() else {
             return Ok(());
         };
         let answer = self.store.ask(alloc, request)?;
-        self.answers.push_back(answer)?;
+        self.answers.push_back((server, answer))?;
         Ok(())
     }
 
     /// The front reads the oldest answer.
-    fn reply(&mut self, alloc: Global, text: &mut Vec<u8>) -> Result<(), AllocError>
+    fn reply(&mut self, text: &mut Vec<u8>) -> Result<(), AllocError>
         ensures { OnOk result ((shown self.new, text.new.items) ≡ spoken text.old.items (happens (shown self.old) Reply)) }
     {
         match self.answers.pop_front() {
-            Some(answer) => self.event(alloc, Event::Got { answer }, text),
+            Some((server, answer)) => {
+                let session = SESSION;
+                self.event(
+                    Event::Got {
+                        session,
+                        server,
+                        answer,
+                    },
+                    text,
+                )
+            }
             None => Ok(()),
         }
     }
@@ -130,7 +147,7 @@ impl World {
         ensures { OnOk result ((shown self.new, text.new.items) ≡ spoken text.old.items (turn (shown self.old))) }
     {
         self.deliver(alloc)?;
-        self.reply(alloc, text)
+        self.reply(text)
     }
 
     /// Turns until the session is idle, at most so many.
@@ -138,7 +155,7 @@ impl World {
         ensures { OnOk result ((shown self.new, text.new.items) ≡ spoken text.old.items (turns most (shown self.old))) }
     {
         for _ in 0..most {
-            if self.front.is_idle() {
+            if self.front.is_idle(SESSION) {
                 return Ok(());
             }
             self.turn(alloc, text)?;
@@ -146,7 +163,35 @@ impl World {
         Ok(())
     }
 
-    /// A client's line: the statement, and then turns until the session is idle.
+    /// Opens the session, where it isn't open.
+    fn open(&mut self, text: &mut Vec<u8>) -> Result<(), AllocError>
+        ensures { OnOk result ((shown self.new, text.new.items) ≡ spoken text.old.items (with_session (shown self.old))) }
+    {
+        if self.front.is_open(SESSION) {
+            return Ok(());
+        }
+        self.event(Event::Open { session: SESSION }, text)
+    }
+
+    /// A statement, and then turns until the session is idle.
+    fn run(
+        &mut self,
+        alloc: Global,
+        statement: &[u8],
+        text: &mut Vec<u8>,
+    ) -> Result<(), AllocError>
+        ensures { OnOk result ((shown self.new, text.new.items) ≡ spoken text.old.items (runs (shown self.old) statement.now)) }
+    {
+        let statement = Event::Statement {
+            session: SESSION,
+            text: Bytes::from_vec(Vec::from_slice(alloc, statement)?),
+        };
+        self.event(statement, text)?;
+        let most = self.front.answers_awaited(SESSION);
+        self.turns(alloc, most, text)
+    }
+
+    /// A client's line: the session is opened where it isn't open, and runs the statement.
     #[tactic(auto, unfolding(crate::specs::World::client))]
     fn client(
         &mut self,
@@ -156,10 +201,8 @@ impl World {
     ) -> Result<(), AllocError>
         ensures { OnOk result ((shown self.new, text.new.items) ≡ spoken text.old.items (client (shown self.old) statement.now)) }
     {
-        let statement = Bytes::from_vec(Vec::from_slice(alloc, statement)?);
-        self.event(alloc, Event::Statement { text: statement }, text)?;
-        let most = self.front.answers_awaited();
-        self.turns(alloc, most, text)
+        self.open(text)?;
+        self.run(alloc, statement, text)
     }
 }
 

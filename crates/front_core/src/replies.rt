@@ -1,6 +1,10 @@
 // The answers to clients' statements.
-ghost use Rattle.std.specs.Prelude.{◌≡◌, IfOk, map};
-ghost use Rattle.plain_tables.specs.Replies.{ok_reply, syntax_reply, duplicate_reply, refused_reply, full_reply, value_column, text_of, value_cell, rows_reply};
+ghost use Rattle.std.specs.Prelude.{◌≡◌, ◌≤◌, true, length, IfOk, map};
+ghost use Rattle.std.specs.Fmt.{signed_decimal};
+ghost use Rattle.std.specs.List.{list_all, AllByRecursion};
+ghost use Rattle.my_messages.specs.Reply.{HasBytes, RowFits};
+ghost use Rattle.plain_tables.specs.Replies.{ok_reply, syntax_reply, duplicate_reply, refused_reply, full_reply, no_memory_reply, value_column, text_of, value_cell, rows_reply};
+ghost use Rattle.front_core.specs.Core.{is_short, is_short_row};
 
 use list_types::{Listed, Text};
 use my_messages::{CellRow, CellRows, Column, Reply};
@@ -21,7 +25,8 @@ const NOT_NULL: u16 = 1;
 
 /// Done, with so many rows changed.
 pub fn done(affected: u64) -> Reply
-    ensures { result ≡ ok_reply affected }
+    ensures reply { result ≡ ok_reply affected }
+    ensures bytes { HasBytes result }
 {
     Reply::Ok {
         affected,
@@ -32,7 +37,8 @@ pub fn done(affected: u64) -> Reply
 
 /// A text that is no statement.
 pub fn syntax_error(alloc: Global) -> Result<Reply, AllocError>
-    ensures { IfOk result (λ reply. reply ≡ syntax_reply) }
+    ensures reply { IfOk result (λ reply. reply ≡ syntax_reply) }
+    ensures bytes { IfOk result HasBytes }
 {
     Ok(Reply::Err {
         number: 1064,
@@ -43,7 +49,8 @@ pub fn syntax_error(alloc: Global) -> Result<Reply, AllocError>
 
 /// A key that is there already.
 pub fn duplicate(alloc: Global, key: i64) -> Result<Reply, AllocError>
-    ensures { IfOk result (λ reply. reply ≡ duplicate_reply key) }
+    ensures reply { IfOk result (λ reply. reply ≡ duplicate_reply key) }
+    ensures bytes { IfOk result HasBytes }
 {
     Ok(Reply::Err {
         number: 1062,
@@ -54,7 +61,8 @@ pub fn duplicate(alloc: Global, key: i64) -> Result<Reply, AllocError>
 
 /// A backend refused a request.
 pub fn backend_refused(alloc: Global, number: u16) -> Result<Reply, AllocError>
-    ensures { IfOk result (λ reply. reply ≡ refused_reply number) }
+    ensures reply { IfOk result (λ reply. reply ≡ refused_reply number) }
+    ensures bytes { IfOk result HasBytes }
 {
     Ok(Reply::Err {
         number: 14006,
@@ -65,12 +73,25 @@ pub fn backend_refused(alloc: Global, number: u16) -> Result<Reply, AllocError>
 
 /// No transaction can be numbered any more.
 pub fn log_full(alloc: Global) -> Result<Reply, AllocError>
-    ensures { IfOk result (λ reply. reply ≡ full_reply) }
+    ensures reply { IfOk result (λ reply. reply ≡ full_reply) }
+    ensures bytes { IfOk result HasBytes }
 {
     Ok(Reply::Err {
         number: 14013,
         state: *b"HY000",
         message: Text::from_str(alloc, "Log full")?,
+    })
+}
+
+/// Want of memory.
+pub fn no_memory(alloc: Global) -> Result<Reply, AllocError>
+    ensures reply { IfOk result (λ reply. reply ≡ no_memory_reply) }
+    ensures bytes { IfOk result HasBytes }
+{
+    Ok(Reply::Err {
+        number: 1037,
+        state: *b"HY001",
+        message: Text::from_str(alloc, "Out of memory")?,
     })
 }
 
@@ -91,19 +112,29 @@ fn column(alloc: Global) -> Result<Column, AllocError>
     })
 }
 
+/// A number in decimal.
+fn number_text(alloc: Global, number: i64) -> Result<Text, AllocError>
+    ensures text { IfOk result (λ text. text ≡ signed_decimal number) }
+    ensures short { IfOk result (λ text. length text ≤ 20) }
+{
+    Ok(Text::from_string(number.to_string(alloc)?))
+}
+
 /// A value as the text of a cell.
 fn text(alloc: Global, value: &Value) -> Result<Text, AllocError>
-    ensures { IfOk result (λ text. text ≡ text_of value.now) }
+    ensures text { IfOk result (λ text. text ≡ text_of value.now) }
+    ensures short { is_short value.now ≡ true → IfOk result (λ text. length text ≤ 1024) }
 {
     match value {
-        Value::Number(number) => Ok(Text::from_string(number.to_string(alloc)?)),
+        Value::Number(number) => number_text(alloc, *number),
         Value::Text(text) => Text::from_str(alloc, text.as_str()),
     }
 }
 
 /// The cell of the column v.
 fn cells(alloc: Global, row: &Row) -> Result<CellRow, AllocError>
-    ensures { IfOk result (λ cells. cells ≡ value_cell row.now) }
+    ensures cells { IfOk result (λ cells. cells ≡ value_cell row.now) }
+    ensures fits { is_short_row row.now ≡ true → IfOk result (RowFits 1) }
 {
     let mut cells = Listed::new(alloc);
     match row.as_slice().get(1) {
@@ -115,7 +146,8 @@ fn cells(alloc: Global, row: &Row) -> Result<CellRow, AllocError>
 
 /// The cells of each row.
 fn all_cells(alloc: Global, rows: &[Row]) -> Result<CellRows, AllocError>
-    ensures { IfOk result (λ all. all ≡ map value_cell rows.now) }
+    ensures cells { IfOk result (λ all. all ≡ map value_cell rows.now) }
+    ensures fits { list_all is_short_row rows.now ≡ true → IfOk result (λ all. AllByRecursion (RowFits 1) all) }
 {
     let mut all = Listed::new(alloc);
     for row in rows {
@@ -126,7 +158,8 @@ fn all_cells(alloc: Global, rows: &[Row]) -> Result<CellRows, AllocError>
 
 /// These rows, reduced to the column v.
 pub fn found(alloc: Global, rows: &[Row]) -> Result<Reply, AllocError>
-    ensures { IfOk result (λ reply. reply ≡ rows_reply rows.now) }
+    ensures reply { IfOk result (λ reply. reply ≡ rows_reply rows.now) }
+    ensures bytes { list_all is_short_row rows.now ≡ true → IfOk result HasBytes }
 {
     let mut columns = Listed::new(alloc);
     columns.push(column(alloc)?)?;

@@ -1,0 +1,3 @@
+pub mod RepliesIn
+pub mod Sessions
+pub mod Turning

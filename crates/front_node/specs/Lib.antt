@@ -1,0 +1,4 @@
+pub mod Asking
+pub mod Seats
+pub mod Serving
+pub mod Session
