@@ -39,7 +39,8 @@ fn serve_held<C: Stream, B: Backs>(
     ensures fault { result ≡ Err SessionEnd.ClientFault → HasRisen (C.faults client.old) (C.faults client.new) }
     ensures no_more { C.readings_left client.new ≤ C.readings_left client.old }
     ensures later { C.faults client.old ≤ C.faults client.new }
-    ensures stays { C.place client.new ≡ C.place client.old }
+    ensures same_source { C.reads_from client.new ≡ C.reads_from client.old }
+    ensures same_sink { C.writes_to client.new ≡ C.writes_to client.old }
 {
     loop {
         match talk.next(alloc, session, front, backs) {
@@ -80,7 +81,8 @@ fn serve_in<C: Stream, B: Backs>(
     ensures session { Session C.passes C.has_ended B.asks session (record { front = front.old; backs = backs.old }) client.old (record { front = front.new; backs = backs.new }) client.new result }
     ensures fault { result ≡ SessionEnd.ClientFault → HasRisen (C.faults client.old) (C.faults client.new) }
     ensures later { C.faults client.old ≤ C.faults client.new }
-    ensures stays { C.place client.new ≡ C.place client.old }
+    ensures same_source { C.reads_from client.new ≡ C.reads_from client.old }
+    ensures same_sink { C.writes_to client.new ≡ C.writes_to client.old }
 {
     let mut talk = Talk::new(alloc);
     loop {
@@ -120,7 +122,8 @@ fn serve_commands<C: Stream, B: Backs>(
     ensures session { Session C.passes C.has_ended B.asks session (record { front = front.old; backs = backs.old }) client.old (record { front = front.new; backs = backs.new }) client.new result }
     ensures fault { result ≡ SessionEnd.ClientFault → HasRisen (C.faults client.old) (C.faults client.new) }
     ensures later { C.faults client.old ≤ C.faults client.new }
-    ensures stays { C.place client.new ≡ C.place client.old }
+    ensures same_source { C.reads_from client.new ≡ C.reads_from client.old }
+    ensures same_sink { C.writes_to client.new ≡ C.writes_to client.old }
 {
     let Ok(mut room) = make_room(alloc, ROOM) else {
         return SessionEnd::NoMemory;
@@ -152,7 +155,8 @@ pub fn serve_session<C: Stream, B: Backs>(
         ⊎ Visit C.passes C.has_ended B.asks 1 (record { front = front.old; backs = backs.old }) client.old (record { front = front.new; backs = backs.new }) client.new result }
     ensures fault { result ≡ SessionEnd.ClientFault → HasRisen (C.faults client.old) (C.faults client.new) }
     ensures later { C.faults client.old ≤ C.faults client.new }
-    ensures stays { C.place client.new ≡ C.place client.old }
+    ensures same_source { C.reads_from client.new ≡ C.reads_from client.old }
+    ensures same_sink { C.writes_to client.new ≡ C.writes_to client.old }
 {
     match front.step(Event::Open { session: SESSION }) {
         Outputs::Given(_opening) => {

@@ -219,7 +219,8 @@ impl Talk {
         ensures fault { IfErr result (λ how. (how ≡ SessionEnd.ClientFault) × HasRisen (C.faults client.old) (C.faults client.new)) }
         ensures no_more { C.readings_left client.new ≤ C.readings_left client.old }
         ensures later { C.faults client.old ≤ C.faults client.new }
-        ensures stays { C.place client.new ≡ C.place client.old }
+        ensures same_source { C.reads_from client.new ≡ C.reads_from client.old }
+        ensures same_sink { C.writes_to client.new ≡ C.writes_to client.old }
     {
         match send_all(client, self.out.as_slice()) {
             Ok(()) => {

@@ -13,6 +13,7 @@ pub enum End {
 }
 
 /// A source and a sink as one stream, as a program's input and output are.
+#[derive(Drop)]
 pub struct Duplex<'a, S, K> {
     pub source: &'a mut S,
     pub sink: &'a mut K,
@@ -60,7 +61,9 @@ impl<'a, S: Source, K: Sink> Stream for Duplex<'a, S, K> {
 
     ghost readings_left = { λ d. S.readings_left d.source.now };
 
-    ghost place = { λ d. d.source.ghost_name ∷ d.sink.ghost_name ∷ [] };
+    ghost reads_from = { λ d. d.source.ghost_name };
+
+    ghost writes_to = { λ d. d.sink.ghost_name };
 
     fn read(&mut self, into: &mut [u8]) -> Result<usize, Failed> {
         match self.source.read(into) {

@@ -17,8 +17,11 @@ pub trait Stream {
     /// At most so many readings still give bytes.
     ghost readings_left: { Self → ℕ };
 
-    /// Where it keeps what it was lent. No call changes it, so whoever lent it knows afterwards what became of that.
-    ghost place: { Self → List ℕ };
+    /// Which reference it reads from, where it was lent one. No call changes it, so whoever lent it knows afterwards what became of it.
+    ghost reads_from: { Self → ℕ };
+
+    /// Which reference it writes to, where it was lent one.
+    ghost writes_to: { Self → ℕ };
 
     /// Reads some of the bytes that are left, and answers how many. None, into a room that isn't empty, is the end.
     /// Where it fails no byte is lost.
@@ -30,7 +33,8 @@ pub trait Stream {
         ensures none { OnErr result (passes self.old [] [] self.new) }
         ensures later { faults self.old ≤ faults self.new }
         ensures cause { OnErr result (HasRisen (faults self.old) (faults self.new)) }
-        ensures stays { place self.new ≡ place self.old };
+        ensures same_source { reads_from self.new ≡ reads_from self.old }
+        ensures same_sink { writes_to self.new ≡ writes_to self.old };
 
     /// Takes a front of the piece, and of a piece that isn't empty at least one byte. Answers how many. Where it
     /// fails it has taken none.
@@ -42,7 +46,8 @@ pub trait Stream {
         ensures no_more { readings_left self.new ≤ readings_left self.old }
         ensures later { faults self.old ≤ faults self.new }
         ensures cause { OnErr result (HasRisen (faults self.old) (faults self.new)) }
-        ensures stays { place self.new ≡ place self.old };
+        ensures same_source { reads_from self.new ≡ reads_from self.old }
+        ensures same_sink { writes_to self.new ≡ writes_to self.old };
 
     ghost passes_nothing: { (s : Self) → passes s [] [] s };
 
@@ -56,7 +61,8 @@ pub fn send_all<C: Stream>(stream: &mut C, bytes: &[u8]) -> Result<(), Failed>
     ensures no_more { C.readings_left stream.new ≤ C.readings_left stream.old }
     ensures later { C.faults stream.old ≤ C.faults stream.new }
     ensures cause { OnErr result (HasRisen (C.faults stream.old) (C.faults stream.new)) }
-    ensures stays { C.place stream.new ≡ C.place stream.old }
+    ensures same_source { C.reads_from stream.new ≡ C.reads_from stream.old }
+    ensures same_sink { C.writes_to stream.new ≡ C.writes_to stream.old }
 {
     let mut at = 0;
     while at < bytes.len() {

@@ -91,12 +91,12 @@ module _ {F S K : Type 0} (holds : F → List ℕ → Option (List ℕ) → Type
   writes_front outcome.Usage r = idle (form_of words) r.2
   writes_front (outcome.Conf fault) r = idle (form_of words) r.1
   writes_front (outcome.Fault object.Conf) r = idle (form_of words) r.2
-  writes_front (outcome.Fault object.Input) r = did_front (outcome.Fault object.Input) r.0 r.1 r.2
-  writes_front (outcome.Fault object.Output) r = did_front (outcome.Fault object.Output) r.0 r.1 r.2
+  writes_front (outcome.Fault object.Input) r = did_front (outcome.Fault object.Input) r.0 r.1.0 r.1.1
+  writes_front (outcome.Fault object.Output) r = did_front (outcome.Fault object.Output) r.0 r.1.0 r.1.1
   writes_front outcome.NoMemory (some, inl i) = idle (form_of words) i
-  writes_front outcome.NoMemory (some, inr d) = did_front outcome.NoMemory d.0 d.1 d.2
-  writes_front outcome.Done r = did_front outcome.Done r.0 r.1 r.2
-  writes_front (outcome.Refused line rule) r = did_front (outcome.Refused line rule) r.0 r.1 r.2
+  writes_front outcome.NoMemory (some, inr d) = did_front outcome.NoMemory d.0 d.1.0 d.1.1
+  writes_front outcome.Done r = did_front outcome.Done r.0 r.1.0 r.1.1
+  writes_front (outcome.Refused line rule) r = did_front (outcome.Refused line rule) r.0 r.1.0 r.1.1
 
   -- THE STATUS
 
@@ -125,11 +125,11 @@ module _ {F S K : Type 0} (holds : F → List ℕ → Option (List ℕ) → Type
   writes_whole (outcome.Conf fault) e r = absurd (cc)
   writes_whole (outcome.Fault what) e r = absurd (cc)
   writes_whole outcome.NoMemory e r = absurd (cc)
-  writes_whole outcome.Done e r = subst Whole (sym r.1.form_is) (whole_by r.0 r.2)
+  writes_whole outcome.Done e r = subst Whole (sym r.1.0.form_is) (whole_by r.0 r.1.1)
   writes_whole (outcome.Refused line rule) e r = absurd (cc)
 
   some_form : {A : Type 0} (o : Option Form) → IsSome o → o ≡ None → A
-  some_form None s e = absurd s
+  some_form None s e = absurd (cc)
   some_form (Some form) s e = absurd (cc)
 
   this_form : {A : Type 0} (o : Option Form) (form : Form) → o ≡ Some form → o ≡ None → A
@@ -141,11 +141,11 @@ module _ {F S K : Type 0} (holds : F → List ℕ → Option (List ℕ) → Type
   usage_is_told outcome.Usage e r = refl
   usage_is_told (outcome.Conf fault) e r = this_form (form_of words) r.0.form r.0.form_is e
   usage_is_told (outcome.Fault object.Conf) e r = some_form (form_of words) r.0 e
-  usage_is_told (outcome.Fault object.Input) e r = this_form (form_of words) r.0 r.1.form_is e
-  usage_is_told (outcome.Fault object.Output) e r = this_form (form_of words) r.0 r.1.form_is e
+  usage_is_told (outcome.Fault object.Input) e r = this_form (form_of words) r.0 r.1.0.form_is e
+  usage_is_told (outcome.Fault object.Output) e r = this_form (form_of words) r.0 r.1.0.form_is e
   usage_is_told outcome.NoMemory e r = some_form (form_of words) r.0 e
-  usage_is_told outcome.Done e r = this_form (form_of words) r.0 r.1.form_is e
-  usage_is_told (outcome.Refused line rule) e r = this_form (form_of words) r.0 r.1.form_is e
+  usage_is_told outcome.Done e r = this_form (form_of words) r.0 r.1.0.form_is e
+  usage_is_told (outcome.Refused line rule) e r = this_form (form_of words) r.0 r.1.0.form_is e
 
   pub usage_only : (how : Outcome) → code_of how ≡ 2 → Ran how → form_of words ≡ None
   usage_only outcome.Usage e r = r.0
@@ -169,8 +169,8 @@ module _ {F S K : Type 0} (holds : F → List ℕ → Option (List ℕ) → Type
   rose outcome.Usage e r = absurd (cc)
   rose (outcome.Conf fault) e r = absurd (cc)
   rose (outcome.Fault object.Conf) e r = inl r.1
-  rose (outcome.Fault object.Input) e r = inr (inl (input_rose r.0 r.2))
-  rose (outcome.Fault object.Output) e r = inr (inr (output_rose r.0 r.2))
+  rose (outcome.Fault object.Input) e r = inr (inl (input_rose r.0 r.1.1))
+  rose (outcome.Fault object.Output) e r = inr (inr (output_rose r.0 r.1.1))
   rose outcome.NoMemory e r = absurd (cc)
   rose outcome.Done e r = absurd (cc)
   rose (outcome.Refused line rule) e r = absurd (cc)
@@ -194,4 +194,4 @@ module _ {F S K : Type 0} (holds : F → List ℕ → Option (List ℕ) → Type
   stops_at (outcome.Fault what) e r = absurd (cc)
   stops_at outcome.NoMemory e r = absurd (cc)
   stops_at outcome.Done e r = absurd (cc)
-  stops_at (outcome.Refused line rule) e r = (line, rule, stopped r.0 line rule r.2)
+  stops_at (outcome.Refused line rule) e r = (line, rule, stopped r.0 line rule r.1.1)

@@ -3,7 +3,6 @@ pub mod Ends
 pub mod Keys
 pub mod LineWords
 pub mod Outputs
-pub mod Requests
 pub mod Runs
 pub mod Shorts
 pub mod Streaming

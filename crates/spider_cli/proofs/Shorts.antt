@@ -1,4 +1,4 @@
-use Rattle.std.proofs.Common.{◌≡◌, ◌<◌, ◌≤◌, ◌&&◌, ℕ, ℤ, List, [], ◌∷◌, true, Option, Some, None, option_to_list, cond, length, refl, sym, ap, ◌∙◌, arith, Ordering, Less, Equal, Greater}
+use Rattle.std.proofs.Common.{◌≡◌, ◌<◌, ◌≤◌, ◌&&◌, ℕ, ℤ, List, [], ◌∷◌, Bool, true, false, Option, Some, None, option_to_list, cond, length, refl, sym, ap, ◌∙◌, arith, Ordering, Less, Equal, Greater}
 use Rattle.std.specs.Prelude.{nat_lt, option_and_then}
 use Rattle.std.specs.List.{list_all, AllByRecursion}
 use Rattle.std.specs.Ordering.{int_cmp, match_ordering, is_eq}
@@ -6,16 +6,13 @@ use Rattle.std.specs.BTreeMap.{insert_entry}
 use Rattle.std.proofs.lemmas.Bool.Decides.{nat_tests}
 use Rattle.sql_values.specs.declared.value.Value.{Value}
 use Rattle.sql_text.specs.declared.statement.Statement.TheVariants.{Insert, Select}
-use Rattle.sql_text.specs.declared.link.LinkRequest.{LinkRequest}
-use Rattle.sql_text.specs.declared.link.LinkRequest.TheVariants.{Scan, Put}
 use Rattle.sql_text.specs.Grammar.{Piece, Part, Word, Blanks, Number, Quoted, Num, Str, Fits, insert_form}
 use Rattle.sql_text.specs.Reading.{statement_of}
 use Rattle.sql_text.proofs.Statements.{statement_sound}
 use Rattle.plain_tables.specs.Table.{Table}
 use Rattle.plain_tables.specs.Exec.{new_row}
 use Rattle.front_core.specs.Core.{is_short_row}
-use Rattle.front_node.specs.Asking.{has_form}
-use Rattle.spider_cli.specs.BranchStore.{AreShort, row_at, key_of, puts, store_step}
+use Rattle.spider_cli.specs.BranchStore.{AreShort, row_at}
 
 -- No text of a remote table is longer than a column may hold.
 
@@ -39,15 +36,6 @@ short_insert (entry ∷ table) key row h k =
       | Equal ↦ (k, h.1)
       | Greater ↦ (h.0, short_insert table key row h.1 k)
     ]
-
--- an answer has its request's form
-put_form : (o : Option ℤ) (table : Table) (row : List Value) → has_form (Put row) (puts o table row).1 ≡ true
-put_form None table row = refl
-put_form (Some key) table row = elim (is_short_row row) as (λ b. has_form (Put row) (cond b (insert_entry int_cmp table key row, _) (table, _)).1 ≡ true) [ true ↦ refl | false ↦ refl ]
-
-pub answers_fit : (table : Table) (request : LinkRequest) → AreShort table → has_form request (store_step table request).1 ≡ true
-answers_fit table (Scan key) h = short_found table key h
-answers_fit table (Put row) h = put_form (key_of row) table row
 
 -- STATEMENTS
 

@@ -1,6 +1,9 @@
 // The one backend: a map of rows by key.
-ghost use Rattle.std.specs.Prelude.{◌≡◌, [], Some, IfOk, OnErr, length, option_to_list};
-ghost use Rattle.spider_cli.specs.BranchStore.{key_of, row_at, mismatch, puts, store_step};
+ghost use Rattle.std.specs.Prelude.{◌≡◌, [], true, Some, IfOk, OnErr, length, option_to_list};
+ghost use Rattle.std.specs.List.{list_all};
+ghost use Rattle.front_core.specs.Core.{is_done, is_short_row as short_row};
+ghost use Rattle.front_node.specs.Asking.{has_form};
+ghost use Rattle.spider_cli.specs.BranchStore.{AreShort, key_of, row_at, mismatch, puts, store_step};
 
 use crate::transcript::{push_has, push_number};
 use front_core::is_short_row;
@@ -60,14 +63,15 @@ impl BranchStore {
     }
 
     /// Answers one request.
-    pub fn ask(&mut self, alloc: Global, request: LinkRequest) -> Result<LinkAnswer, AllocError>
-        ensures step { IfOk result (λ answer. (self.new, answer) ≡ store_step self.old request) }
+    pub fn ask(&mut self, alloc: Global, request: &LinkRequest) -> Result<LinkAnswer, AllocError>
+        ensures step { IfOk result (λ answer. (self.new, answer) ≡ store_step self.old request.now) }
+        ensures form { IfOk result (λ answer. has_form request.now answer ≡ true) }
         ensures unchanged { OnErr result (self.new ≡ self.old) }
     {
         match request {
-            LinkRequest::Scan { key } => Ok(LinkAnswer::Rows(self.scan(alloc, &key)?)),
-            LinkRequest::Put { row } => match key(&row) {
-                Some(key) => self.put(alloc, key, row),
+            LinkRequest::Scan { key } => Ok(LinkAnswer::Rows(self.scan(alloc, key)?)),
+            LinkRequest::Put { row } => match key(row) {
+                Some(key) => self.put(alloc, key, row.clone()?),
                 None => refused(alloc),
             },
         }
@@ -76,6 +80,7 @@ impl BranchStore {
     /// Puts a row under its key.
     fn put(&mut self, alloc: Global, key: i64, row: Row) -> Result<LinkAnswer, AllocError>
         ensures step { IfOk result (λ answer. (self.new, answer) ≡ puts (Some key) self.old row) }
+        ensures form { IfOk result (λ answer. is_done answer ≡ true) }
         ensures unchanged { OnErr result (self.new ≡ self.old) }
     {
         if !is_short_row(&row) {
@@ -87,6 +92,22 @@ impl BranchStore {
 
     /// The rows with that key.
     fn scan(&self, alloc: Global, key: &i64) -> Result<Rows, AllocError>
+        ensures rows { IfOk result (λ rows. rows ≡ option_to_list (row_at self.now key.now)) }
+        ensures short { IfOk result (λ rows. list_all short_row rows ≡ true) }
+    {
+        self.are_short();
+        let rows = self.found(alloc, key)?;
+        Ok(rows)
+    }
+
+    /// What the type keeps, as a fact for a caller's proof.
+    fn are_short(&self)
+        ensures { AreShort self.now }
+    {
+        let _rows = &self.rows;
+    }
+
+    fn found(&self, alloc: Global, key: &i64) -> Result<Rows, AllocError>
         ensures { IfOk result (λ rows. rows ≡ option_to_list (row_at self.now key.now)) }
     {
         let mut rows = Listed::new(alloc);
@@ -145,6 +166,6 @@ impl Backs for BranchStore {
         request: &LinkRequest,
     ) -> Result<LinkAnswer, AllocError> {
         let _server = server;
-        BranchStore::ask(self, alloc, request.clone()?)
+        BranchStore::ask(self, alloc, request)
     }
 }

@@ -108,7 +108,7 @@ fn carry_out<I: Source, O: Sink>(
     input: &mut I,
     out: &mut O,
 ) -> Outcome
-    ensures { DoesOn I.gives I.has_ended I.faults O.takes O.faults input.old input.new out.old out.new conf.now (form_view form) result }
+    ensures { DoesOn I.gives I.has_ended I.faults O.takes O.faults input.old input.new out.old out.new conf.now (form_view form.entry) result }
 {
     match form {
         Form::Play(_path) => play_on(alloc, conf, input, out),
@@ -118,7 +118,7 @@ fn carry_out<I: Source, O: Sink>(
 
 /// The path of the configuration.
 fn path_of<'a>(form: Form<'a>) -> &'a str
-    ensures { result.now ≡ path_of (form_view form) }
+    ensures { result.now ≡ path_of (form_view form.entry) }
 {
     match form {
         Form::Play(path) => path,

@@ -117,7 +117,7 @@ impl World {
         let Some((server, request)) = self.requests.pop_front() else {
             return Ok(());
         };
-        let answer = self.store.ask(alloc, request)?;
+        let answer = self.store.ask(alloc, &request)?;
         self.answers.push_back((server, answer))?;
         Ok(())
     }

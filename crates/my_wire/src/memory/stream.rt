@@ -48,7 +48,9 @@ impl Stream for MemStream {
 
     ghost readings_left = { λ s. length (to_give s) };
 
-    ghost place = { λ s. [] };
+    ghost reads_from = { λ s. 0 };
+
+    ghost writes_to = { λ s. 0 };
 
     fn read(&mut self, into: &mut [u8]) -> Result<usize, Failed> {
         match self.source.read(into) {

@@ -22,7 +22,8 @@ loop-talk-preserved-in-Ok g c =
       reader = stands c.flush.new.self.reader _ (written.reader ∙ c.in-Served.ensures.reader);
       no_more = omega arith;
       later = omega arith;
-      stays = c.flush.ensures.stays ∙ c.loop-talk.invariant.stays;
+      same_source = c.flush.ensures.same_source ∙ c.loop-talk.invariant.same_source;
+      same_sink = c.flush.ensures.same_sink ∙ c.loop-talk.invariant.same_sink;
     }
 
 pub returns-in-Err-clause-ended : goal.returns-in-Err-clause-ended
@@ -45,7 +46,8 @@ loop-talk-preserved g c =
       reader = stands c.next.new.self.reader _ c.in-Served.ensures.reader;
       no_more = c.loop-talk.invariant.no_more;
       later = c.loop-talk.invariant.later;
-      stays = c.loop-talk.invariant.stays;
+      same_source = c.loop-talk.invariant.same_source;
+      same_sink = c.loop-talk.invariant.same_sink;
     }
 
 pub returns-in-Ok-flush-clause-served : goal.returns-in-Ok-flush-clause-served

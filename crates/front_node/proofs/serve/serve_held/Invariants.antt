@@ -12,7 +12,8 @@ invariant-loop-talk g l = record {
   reader : l.talk.reader ≡ at_command l.talk.reader.held;
   no_more : g.C.Stream.readings_left l.client ≤ g.C.Stream.readings_left l.fn.client;
   later : g.C.Stream.faults l.fn.client ≤ g.C.Stream.faults l.client;
-  stays : g.C.Stream.place l.client ≡ g.C.Stream.place l.fn.client;
+  same_source : g.C.Stream.reads_from l.client ≡ g.C.Stream.reads_from l.fn.client;
+  same_sink : g.C.Stream.writes_to l.client ≡ g.C.Stream.writes_to l.fn.client;
 }
 
 abbrev pub decreases-loop-talk : goal.decreases-loop-talk

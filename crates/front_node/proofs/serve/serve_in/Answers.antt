@@ -42,7 +42,8 @@ loop-count-preserved g c =
       written = c.in-Ok-serve_held.ensures.written;
       room = omega arith;
       later = omega arith;
-      stays = c.serve_held.ensures.stays ∙ c.read.ensures.stays ∙ c.loop-count.invariant.stays;
+      same_source = c.serve_held.ensures.same_source ∙ c.read.ensures.same_source ∙ c.loop-count.invariant.same_source;
+      same_sink = c.serve_held.ensures.same_sink ∙ c.read.ensures.same_sink ∙ c.loop-count.invariant.same_sink;
     }
 
 pub returns-in-Err-serve_held-clause-session : goal.returns-in-Err-serve_held-clause-session

@@ -12,7 +12,8 @@ invariant-loop-count g l = record {
   written : l.talk.out ≡ [];
   room : 0 < length l.room;
   later : g.C.Stream.faults l.fn.client ≤ g.C.Stream.faults l.client;
-  stays : g.C.Stream.place l.client ≡ g.C.Stream.place l.fn.client;
+  same_source : g.C.Stream.reads_from l.client ≡ g.C.Stream.reads_from l.fn.client;
+  same_sink : g.C.Stream.writes_to l.client ≡ g.C.Stream.writes_to l.fn.client;
 }
 
 abbrev pub decreases-loop-count : goal.decreases-loop-count

@@ -20,5 +20,6 @@ loop-at-preserved g c = record {
       (g.met.C.Stream.passes_on _ _ _ _ _ _ _ c.loop-at.invariant.taken c.in_ok-at.ensures.taken);
   no_more = search rules;
   later = search rules;
-  stays = c.write.ensures.stays ∙ c.loop-at.invariant.stays;
+  same_source = c.write.ensures.same_source ∙ c.loop-at.invariant.same_source;
+  same_sink = c.write.ensures.same_sink ∙ c.loop-at.invariant.same_sink;
 }

@@ -8,7 +8,8 @@ invariant-loop-at g l = record {
   taken : g.C.Stream.passes l.initial.stream [] (take l.at l.bytes) l.stream;
   no_more : g.C.Stream.readings_left l.stream ≤ g.C.Stream.readings_left l.initial.stream;
   later : g.C.Stream.faults l.initial.stream ≤ g.C.Stream.faults l.stream;
-  stays : g.C.Stream.place l.stream ≡ g.C.Stream.place l.initial.stream;
+  same_source : g.C.Stream.reads_from l.stream ≡ g.C.Stream.reads_from l.initial.stream;
+  same_sink : g.C.Stream.writes_to l.stream ≡ g.C.Stream.writes_to l.initial.stream;
 }
 
 abbrev pub decreases-loop-at : goal.decreases-loop-at
