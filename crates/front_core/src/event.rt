@@ -14,9 +14,14 @@ pub struct TxNo {
 #[derive(Debug, Drop)]
 pub enum Event {
     /// A session begins.
-    Open { session: u32 },
+    Open {
+        session: u32,
+    },
     /// The session's client sent a statement, whose text need be no UTF-8.
-    Statement { session: u32, text: Bytes },
+    Statement {
+        session: u32,
+        text: Bytes,
+    },
     /// The server answered the oldest request of the session that it hasn't answered yet.
     Got {
         session: u32,
@@ -24,7 +29,9 @@ pub enum Event {
         answer: LinkAnswer,
     },
     /// The session's client left, or is gone.
-    Closed { session: u32 },
+    Closed {
+        session: u32,
+    },
 }
 
 /// What a step asks for or tells, for the session of its event.
@@ -36,13 +43,22 @@ pub enum Output {
         request: LinkRequest,
     },
     /// The session reads that server's answer next.
-    Await { server: ServerNo },
+    Await {
+        server: ServerNo,
+    },
     /// The transaction is decided.
-    Decided { tx: TxNo },
+    Decided {
+        tx: TxNo,
+    },
     /// The next answer acknowledges its commit.
-    Acked { tx: TxNo },
+    Acked {
+        tx: TxNo,
+    },
     /// The answer to the statement, with its transaction where it had one.
-    Answer { tx: Option<TxNo>, reply: Reply },
+    Answer {
+        tx: Option<TxNo>,
+        reply: Reply,
+    },
 }
 
 /// What a step gives out.

@@ -6,8 +6,7 @@ ghost use Rattle.front_core.specs.Outputs.{AnswersHaveBytes};
 ghost use Rattle.std.specs.List.{list_all};
 ghost use Rattle.front_core.specs.Core.{asks as asked, is_short as short_value, is_short_row as short_row, is_rows as rows_form, is_done as done_form};
 
-use crate::replies;
-use crate::{Output, TxNo};
+use crate::{Output, TxNo, replies};
 use list_types::Listed;
 use my_messages::Reply;
 use sql_text::{LinkAnswer, LinkRequest, ParseFault, Statement, parse};
@@ -183,7 +182,12 @@ impl Work {
     }
 
     /// The statement is answered without a decision.
-    fn refuse(&mut self, alloc: Global, tx: TxNo, reply: Reply) -> Result<Listed<Output>, AllocError>
+    fn refuse(
+        &mut self,
+        alloc: Global,
+        tx: TxNo,
+        reply: Reply,
+    ) -> Result<Listed<Output>, AllocError>
         requires { HasBytes reply }
         ensures step { IfOk result (λ outputs. (self.new, outputs) ≡ refuses tx reply) }
         ensures bytes { IfOk result AnswersHaveBytes }
@@ -193,7 +197,12 @@ impl Work {
     }
 
     /// The transaction is decided, and its statement answered.
-    fn commit(&mut self, alloc: Global, tx: TxNo, reply: Reply) -> Result<Listed<Output>, AllocError>
+    fn commit(
+        &mut self,
+        alloc: Global,
+        tx: TxNo,
+        reply: Reply,
+    ) -> Result<Listed<Output>, AllocError>
         requires { HasBytes reply }
         ensures step { IfOk result (λ outputs. (self.new, outputs) ≡ commits tx reply) }
         ensures bytes { IfOk result AnswersHaveBytes }

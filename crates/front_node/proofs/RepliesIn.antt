@@ -1,7 +1,6 @@
 use Rattle.std.proofs.Common.{◌≡◌, ◌++◌, List, [], ◌∷◌, Option, Some, None, refl, sym, ap, ◌∙◌}
 use Rattle.std.specs.Prelude.{IfSome}
 use Rattle.std.specs.Option.{option_or}
-use Rattle.std.specs.List.{AllByRecursion}
 use Rattle.my_messages.specs.Reply.{HasBytes}
 use Rattle.my_messages.specs.declared.reply.Reply.{Reply}
 use Rattle.front_core.specs.declared.event.Output.{Output}

@@ -1,4 +1,4 @@
-use Rattle.std.proofs.Common.{◌≡◌, ◌≢◌, ℕ, ◌++◌, ◌≤◌, List, [], ◌∷◌, Option, Some, None, length, take, refl, sym, ap, ◌∙◌, subst, append_assoc}
+use Rattle.std.proofs.Common.{◌≡◌, ◌≢◌, ℕ, ◌++◌, ◌≤◌, List, [], ◌∷◌, length, take, refl, sym, ap, ◌∙◌, subst, append_assoc}
 use Rattle.std.proofs.lemmas.List.{append-nil, take-append-drop}
 use Rattle.std.proofs.lemmas.Grind.{flat_map-append}
 use Rattle.std.specs.Prelude.{drop}
@@ -7,11 +7,8 @@ use Rattle.my_wire.specs.Counts.{TakesFront, IsFront}
 use Rattle.my_wire.specs.Packets.{Found, found, Wanting, Whole, Refused, Stream, packet, first_packet, most, AllFit, with_held}
 use Rattle.my_wire.specs.declared.packet.WireFault.{WireFault}
 use Rattle.my_wire.specs.declared.packet.WireFault.TheVariants.{TooLarge, OutOfOrder, NoMemory}
-use Rattle.my_messages.specs.Command.{IsCommand}
 use Rattle.my_messages.specs.Reply.{Each}
-use Rattle.my_messages.specs.declared.command.Command.{Command}
 use Rattle.my_messages.specs.declared.command.Command.TheVariants.{Quit}
-use Rattle.my_messages.specs.declared.reply.Reply.{Reply}
 use Rattle.my_messages.specs.declared.session_end.SessionEnd.{SessionEnd}
 use Rattle.my_messages.specs.declared.session_end.SessionEnd.TheVariants as ends
 use Rattle.sql_text.specs.declared.link.LinkRequest.{LinkRequest}
@@ -19,7 +16,6 @@ use Rattle.sql_text.specs.declared.link.LinkAnswer.{LinkAnswer}
 use Rattle.front_node.specs.Asking.{Node}
 use Rattle.front_node.specs.Session.{Exchange, exchange_bytes, status_by, status_after, session_bytes, commands_bytes, IsAbout, Sent, refusal_bytes, sent_to, Exchanged, Served, EndsBy, IsOver, Session}
 use Rattle.front_node.specs.Serving.{Seat, HasServed, Went, Serving, at_command}
-use Rattle.front_node.specs.declared.session.Step.{Step}
 use Rattle.front_node.specs.declared.session.Step.TheVariants as steps
 
 -- what a reader at a command finds

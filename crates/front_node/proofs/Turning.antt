@@ -1,4 +1,4 @@
-use Rattle.std.proofs.Common.{◌≡◌, ℕ, zero, suc, ◌+◌, ◌-◌, ◌<◌, ◌++◌, List, [], ◌∷◌, Bool, true, false, Option, Some, None, refl, sym, ap, ◌∙◌, subst, arith}
+use Rattle.std.proofs.Common.{◌≡◌, ℕ, zero, suc, ◌+◌, ◌-◌, ◌<◌, ◌++◌, List, [], ◌∷◌, Bool, true, false, Option, None, refl, sym, ap, ◌∙◌, subst, arith}
 use Rattle.std.specs.Prelude.{◌||◌}
 use Rattle.std.specs.Option.{option_or}
 use Rattle.my_messages.specs.declared.reply.Reply.{Reply}
@@ -72,8 +72,7 @@ module _ {B : Type 0} (asks : B → ℕ → LinkRequest → LinkAnswer → B →
       let more = t.0 in
       let turns : Turns asks n (answers_awaited (work_of begun n)) (record { front = begun; requests = sends (outputs_of given); backs = old.backs }) more end =
       subst (λ rs. Turns asks n (answers_awaited (work_of begun n)) (record { front = begun; requests = rs; backs = old.backs }) more end) sent
-      (subst (λ k. Turns asks n k (record { front = begun; requests = requests; backs = old.backs }) more end) awaited t.2) in
-      (
+      (subst (λ k. Turns asks n k (record { front = begun; requests = requests; backs = old.backs }) more end) awaited t.2) in (
         outputs_of given ++ more,
         ap (λ o. option_or o reply) t.1 ∙ ap (λ o. option_or (reply_in more) o) e ∙ sym (reply_in-append (outputs_of given) more),
         record { given = given; begun = begun; more = more; end = end; step = step; turns = turns; outputs_are = refl; new_is = refl },

@@ -1,4 +1,4 @@
-use Rattle.std.specs.Prelude.{◌≡◌, ℕ, ◌++◌, List, [], None}
+use Rattle.std.specs.Prelude.{◌≡◌, ℕ, ◌++◌, List, []}
 use Rattle.my_wire.specs.Packets.{Refused, with_held}
 use Rattle.my_wire.specs.declared.packet.WireFault.{WireFault}
 use Rattle.my_messages.specs.declared.session_end.SessionEnd.TheVariants as ends

@@ -1,17 +1,16 @@
 -- A session between two packets.
-use Rattle.std.specs.Prelude.{◌≡◌, ◌≢◌, ℕ, ◌≤◌, ◌++◌, List, [], length, Option, None}
-use Rattle.my_wire.specs.Packets.{Found, Wanting, Whole, Refused, Stream, packet, first_packet, most}
+use Rattle.std.specs.Prelude.{◌≡◌, ◌≢◌, ℕ, ◌≤◌, ◌++◌, List, length, Option, None}
+use Rattle.my_wire.specs.Packets.{Wanting, Whole, Refused, Stream, packet, first_packet, most}
 use Rattle.my_wire.specs.declared.packet.WireFault.{WireFault}
 use Rattle.my_messages.specs.Command.{IsCommand}
 use Rattle.my_messages.specs.declared.command.Command.{Command}
 use Rattle.my_messages.specs.declared.command.Command.TheVariants.{Quit}
 use Rattle.my_messages.specs.declared.reply.Reply.{Reply}
-use Rattle.my_messages.specs.declared.session_end.SessionEnd.{SessionEnd}
 use Rattle.my_messages.specs.declared.session_end.SessionEnd.TheVariants as ends
 use Rattle.sql_text.specs.declared.link.LinkRequest.{LinkRequest}
 use Rattle.sql_text.specs.declared.link.LinkAnswer.{LinkAnswer}
 use Rattle.front_node.specs.Asking.{Node}
-use Rattle.front_node.specs.Session.{Exchange, exchange_bytes, status_by, session_bytes, status_after, refusal_bytes, EndsBy, Exchanged, Served, Sent, sent_to, IsOver}
+use Rattle.front_node.specs.Session.{Exchange, exchange_bytes, status_by, session_bytes, status_after, refusal_bytes, EndsBy, Exchanged, Served, Sent}
 use Rattle.front_node.specs.declared.session.Step.{Step}
 use Rattle.front_node.specs.declared.session.Step.TheVariants as steps
 

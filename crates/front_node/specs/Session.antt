@@ -1,10 +1,10 @@
 -- What a client of a session is sent ("Command Phase").
-use Rattle.std.specs.Prelude.{◌≡◌, ◌⊎◌, ◌≢◌, ℕ, ◌++◌, List, [], ◌∷◌, Option, Some, None, if◌then◌else◌, codes}
+use Rattle.std.specs.Prelude.{◌≡◌, ◌≢◌, ℕ, ◌++◌, List, [], ◌∷◌, Option, Some, None, if◌then◌else◌, codes}
 use Rattle.std.specs.List.{flat_map, AllByRecursion}
 use Rattle.std.specs.Fmt.{decimal}
 use Rattle.std.specs.Str.{bytes_eq}
 use Rattle.my_wire.specs.Counts.{IsFront}
-use Rattle.my_wire.specs.Packets.{Found, Wanting, Whole, Refused, packet, packets, next, first_packet, AllFit}
+use Rattle.my_wire.specs.Packets.{Found, Wanting, Whole, Refused, packet, packets, first_packet, AllFit}
 use Rattle.my_wire.specs.declared.packet.WireFault.{WireFault}
 use Rattle.my_wire.specs.declared.packet.WireFault.TheVariants.{TooLarge, OutOfOrder, NoMemory}
 use Rattle.my_messages.specs.Command.{IsCommand}

@@ -87,8 +87,8 @@ pub fn out_of_order(alloc: Global, expected: u8, found: u8) -> Result<Reply, All
     Ok(Reply::Err {
         number: 1156,
         state: *b"08S01",
-        message: Text::from_string(
-            format!(in alloc; "Got packets out of order: expected {expected}, found {found}")?,
-        ),
+        message: Text::from_string(format!(in alloc;
+            "Got packets out of order: expected {expected}, found {found}"
+        )?),
     })
 }

@@ -128,14 +128,7 @@ fn serve_commands<C: Stream, B: Backs>(
     let Ok(mut room) = make_room(alloc, ROOM) else {
         return SessionEnd::NoMemory;
     };
-    serve_in(
-        alloc,
-        session,
-        front,
-        backs,
-        client,
-        room.as_mut_slice(),
-    )
+    serve_in(alloc, session, front, backs, client, room.as_mut_slice())
 }
 
 /// Serves one client of a front over its servers, from the first command on ("Command Phase").

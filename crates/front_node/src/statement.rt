@@ -97,7 +97,7 @@ fn turn<B: Backs>(
     ensures bytes { IfOk result (λ reply. IfSome reply HasBytes) }
     ensures asked { IfOk result (λ reply. (outputs : List Output) × (reply ≡ reply_in outputs)
         × Turn B.asks session (record { front = front.old; requests = asked.now ∷ requests.old.items; backs = backs.old }) outputs
-            (record { front = front.new; requests = requests.new.items; backs = backs.new })) }
+        (record { front = front.new; requests = requests.new.items; backs = backs.new })) }
 {
     let (server, request) = asked;
     let server = *server;
@@ -122,7 +122,7 @@ fn turns<B: Backs>(
     ensures bytes { IfOk result (λ reply. IfSome reply HasBytes) }
     ensures asked { IfOk result (λ reply. (outputs : List Output) × (reply ≡ reply_in outputs)
         × Turns B.asks session most (record { front = front.old; requests = requests.old.items; backs = backs.old }) outputs
-            (record { front = front.new; requests = requests.new.items; backs = backs.new })) }
+        (record { front = front.new; requests = requests.new.items; backs = backs.new })) }
 {
     let mut reply = None;
     for _ in 0..most {

@@ -1,9 +1,10 @@
 //! The program over memory: what its top call's contract says of objects that tell all, and tests of the whole path.
 #![tactic(auto)]
 
-ghost use Rattle.std.specs.Prelude.{◌≡◌, ◌++◌, None};
+ghost use Rattle.std.specs.Prelude.{◌≡◌, ◌++◌, Some, None, List, ℕ, map, string_bytes};
 ghost use Rattle.my_wire.specs.Memory.{taken};
 ghost use Rattle.spider_cli.specs.Run.{transcript};
+ghost use Rattle.spider_cli.specs.Top.{Play, form_of};
 
 use my_wire::{MemFiles, MemSink, MemSource, Status};
 use spider_cli::spider_local;
@@ -12,7 +13,7 @@ use std::alloc::Global;
 #[cfg(test)]
 mod tests;
 
-/// Plays a schedule over memory. Status 0 says that the whole transcript of the whole schedule was written, and nothing else.
+/// Calls the program over memory. Where the words ask to play, status 0 says that the whole transcript of the whole schedule was written, and nothing else.
 pub fn play_in_memory(
     alloc: Global,
     words: &[String],
@@ -21,8 +22,8 @@ pub fn play_in_memory(
     out: &mut MemSink,
     err: &mut MemSink,
 ) -> Status
-    ensures unbroken { result.code ≡ 0 → (transcript schedule.items).refusal ≡ None }
-    ensures whole { result.code ≡ 0 → taken out.new ≡ taken out.old ++ (transcript schedule.items).text }
+    ensures unbroken { result.code ≡ 0 → (path : List ℕ) → form_of (map string_bytes words.now) ≡ Some (Play path) → (transcript schedule.items).refusal ≡ None }
+    ensures whole { result.code ≡ 0 → (path : List ℕ) → form_of (map string_bytes words.now) ≡ Some (Play path) → taken out.new ≡ taken out.old ++ (transcript schedule.items).text }
 {
     let mut input = MemSource::new(schedule, Vec::new(alloc));
     spider_local(alloc, words, files, &mut input, out, err)

@@ -253,3 +253,95 @@ fn each_writing_fails(rt: HostRuntime) -> Result<(), Fail> {
     }
     Ok(())
 }
+
+/// A session of packets on the configuration that is built, read in pieces of at most so many bytes.
+fn wire(alloc: Global, session: &[u8], piece: usize) -> Result<Ran, AllocError> {
+    let mut reads = Vec::new(alloc);
+    for _ in 0..session.len() {
+        reads.push(ScriptedCall::AtMost(piece))?;
+    }
+    call(
+        alloc,
+        "wire conf",
+        FIRST_CONF,
+        session,
+        reads,
+        Vec::new(alloc),
+    )
+}
+
+/// Whether the session ends with status 0 and these replies, in pieces of that size.
+fn is_answered(
+    alloc: Global,
+    session: &[u8],
+    replies: &[u8],
+    piece: usize,
+) -> Result<bool, AllocError> {
+    let ran = wire(alloc, session, piece)?;
+    Ok(ran.status == 0 && ran.out.as_slice() == replies && ran.err.is_empty())
+}
+
+const PING: &[u8] = b"\x01\0\0\0\x0E";
+
+const PONG: &[u8] = b"\x07\0\0\x01\0\0\0\x02\0\0\0";
+
+/// An INSERT and a SELECT of its row.
+const STATEMENTS: &[u8] =
+    b"\x1E\0\0\0\x03INSERT INTO t VALUES (1, 'a')\x1C\0\0\0\x03SELECT v FROM t WHERE k = 1";
+
+const ROWS: &[u8] =
+    b"\x07\0\0\x01\0\x01\0\x02\0\0\0\x01\0\0\x01\x01\x20\0\0\x02\x03def\x06spider\x01t\x01t\x01v\x01v\x0C\x2D\0\x50\0\0\0\xFD\x01\0\0\0\0\x05\0\0\x03\xFE\0\0\x02\0\x02\0\0\x04\x01a\x05\0\0\x05\xFE\0\0\x02\0";
+
+#[test]
+fn sessions_have_their_replies(rt: HostRuntime) -> Result<(), Fail> {
+    let alloc = rt.alloc();
+    let table: [(&[u8], &[u8]); 10] = [
+        (PING, PONG),
+        (b"", b""),
+        (b"\x01\0\0", b""),
+        (b"\x02\0\0\0\x0E", b""),
+        (
+            b"\x01\0\x10\0",
+            b"\x2F\0\0\x01\xFF\x81\x04#08S01Got a packet bigger than 1048576 bytes",
+        ),
+        (
+            b"\0\0\0\x05\x01\0\0\0\x0E",
+            b"\x36\0\0\x01\xFF\x84\x04#08S01Got packets out of order: expected 0, found 5",
+        ),
+        (b"\x01\0\0\0\x01\x01\0\0\0\x0E", b""),
+        (
+            b"\x02\0\0\0\x02\xFF",
+            b"\x18\0\0\x01\xFF\x17\x04#08S01Unknown command",
+        ),
+        (
+            b"\x02\0\0\0\x02x\x07\0\0\0\x02spider",
+            b"\x1D\0\0\x01\xFF\x19\x04#42000Unknown database 'x'\x07\0\0\x01\0\0\0\x02\0\0\0",
+        ),
+        (STATEMENTS, ROWS),
+    ];
+    for (session, replies) in table.iter() {
+        assert!(rt; is_answered(alloc, session, replies, 65_536)?);
+        assert!(rt; is_answered(alloc, session, replies, 1)?);
+    }
+    Ok(())
+}
+
+#[test]
+fn a_session_names_the_end_that_failed(rt: HostRuntime) -> Result<(), Fail> {
+    let alloc = rt.alloc();
+    let mut fails = Vec::new(alloc);
+    fails.push(ScriptedCall::Fails)?;
+    let ran = call(alloc, "wire conf", FIRST_CONF, PING, fails, Vec::new(alloc))?;
+    assert_eq!(rt;
+        (ran.status, ran.err.as_slice()),
+        (1, b"outside fault: input\n".as_slice())
+    );
+    let mut fails = Vec::new(alloc);
+    fails.push(ScriptedCall::Fails)?;
+    let ran = call(alloc, "wire conf", FIRST_CONF, PING, Vec::new(alloc), fails)?;
+    assert_eq!(rt;
+        (ran.status, ran.err.as_slice()),
+        (1, b"outside fault: output\n".as_slice())
+    );
+    Ok(())
+}

@@ -2,19 +2,17 @@ use Rattle.std.proofs.Common.{◌≡◌, ◌⊎◌, inl, inr, ℕ, List, [], Opt
 use Rattle.std.specs.Prelude.{IsSome}
 use Rattle.my_wire.specs.Counts.{HasRisen}
 use Rattle.my_messages.specs.declared.session_end.SessionEnd.{SessionEnd}
-use Rattle.my_messages.specs.declared.session_end.SessionEnd.TheVariants as ends
-use Rattle.front_node.specs.Session.{IsOver, sent_to}
+use Rattle.front_node.specs.Session.{sent_to}
 use Rattle.spider_cli.specs.declared.outcome.Object.TheVariants as object
 use Rattle.spider_cli.specs.declared.outcome.Outcome.{Outcome}
 use Rattle.spider_cli.specs.declared.outcome.Outcome.TheVariants as outcome
 use Rattle.spider_cli.specs.declared.world_play.PlayEnd.{PlayEnd}
-use Rattle.spider_cli.specs.declared.world_play.PlayEnd.TheVariants as end
 use Rattle.spider_cli.specs.declared.schedule.LineRule.{LineRule}
 use Rattle.spider_cli.specs.Run.{transcript}
 use Rattle.spider_cli.specs.Playing.{Plays}
 use Rattle.spider_cli.specs.Wire.{Wires}
 use Rattle.spider_cli.specs.Outcome.{code_of}
-use Rattle.spider_cli.specs.Top.{Form, Play, Wire, form_of, WritesFront, WritesWhole, WiresFront, WiresWhole, IsIdle, FrontBy, WholeBy, StopsAt, IsOther, IsStarted, Does, Runs}
+use Rattle.spider_cli.specs.Top.{Form, Play, Wire, form_of, WritesFront, WiresFront, IsIdle, FrontBy, WholeBy, StopsAt, IsOther, IsStarted, Does, Runs}
 
 -- What the cases of an outcome have in common.
 

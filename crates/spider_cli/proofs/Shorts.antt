@@ -1,11 +1,11 @@
-use Rattle.std.proofs.Common.{◌≡◌, ◌<◌, ◌≤◌, ◌&&◌, ℕ, ℤ, List, [], ◌∷◌, Bool, true, false, Option, Some, None, option_to_list, cond, length, refl, sym, ap, ◌∙◌, arith, Ordering, Less, Equal, Greater}
-use Rattle.std.specs.Prelude.{nat_lt, option_and_then}
-use Rattle.std.specs.List.{list_all, AllByRecursion}
+use Rattle.std.proofs.Common.{◌≡◌, ◌≤◌, ◌&&◌, ℕ, ℤ, List, [], ◌∷◌, true, Option, Some, option_to_list, cond, length, refl, ap, arith, Ordering, Less, Equal, Greater}
+use Rattle.std.specs.Prelude.{nat_lt}
+use Rattle.std.specs.List.{list_all}
 use Rattle.std.specs.Ordering.{int_cmp, match_ordering, is_eq}
 use Rattle.std.specs.BTreeMap.{insert_entry}
 use Rattle.std.proofs.lemmas.Bool.Decides.{nat_tests}
 use Rattle.sql_values.specs.declared.value.Value.{Value}
-use Rattle.sql_text.specs.declared.statement.Statement.TheVariants.{Insert, Select}
+use Rattle.sql_text.specs.declared.statement.Statement.TheVariants.{Insert}
 use Rattle.sql_text.specs.Grammar.{Piece, Part, Word, Blanks, Number, Quoted, Num, Str, Fits, insert_form}
 use Rattle.sql_text.specs.Reading.{statement_of}
 use Rattle.sql_text.proofs.Statements.{statement_sound}

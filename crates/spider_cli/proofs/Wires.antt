@@ -1,11 +1,10 @@
 use Rattle.std.proofs.Common.{◌≡◌, ◌≢◌, ◌⊎◌, inl, inr, ℕ, zero, suc, ◌+◌, ◌^◌, ◌<◌, ◌≤◌, ◌++◌, List, [], ◌∷◌, Bool, true, false, cond, Option, Some, None, length, map, refl, sym, ap, ◌∙◌, subst, arith}
 use Rattle.std.specs.Prelude.{is_some, ◌||◌, ◌&&◌, ◌==◌}
 use Rattle.std.specs.Option.{option_or}
-use Rattle.std.specs.List.{AllByRecursion, flat_map}
+use Rattle.std.specs.List.{AllByRecursion}
 use Rattle.std.specs.Ordering.{nat_cmp}
 use Rattle.std.specs.BTreeMap.{is_at}
 use Rattle.std.specs.Map.{lookup, set_value}
-use Rattle.std.proofs.lemmas.List.{append-nil}
 use Rattle.sql_text.specs.declared.link.LinkRequest.{LinkRequest}
 use Rattle.sql_text.specs.declared.link.LinkAnswer.{LinkAnswer}
 use Rattle.sql_text.specs.Reading.{statement_of}
@@ -23,9 +22,9 @@ use Rattle.front_core.specs.declared.event.Output.{Output}
 use Rattle.front_core.specs.declared.event.Output.TheVariants.{Send, Await, Decided, Acked, Answer}
 use Rattle.front_core.specs.declared.event.Outputs.{Outputs}
 use Rattle.front_core.specs.declared.event.Outputs.TheVariants.{Given, NoRoom}
-use Rattle.front_core.specs.Core.{Front, new_front, IsStep, front_step, fits, starved, work_of, rests, is_idle, awaits, with_work, answers_awaited}
+use Rattle.front_core.specs.Core.{Front, new_front, IsStep, front_step, fits, work_of, rests, awaits, with_work, answers_awaited}
 use Rattle.front_core.specs.Outputs.{sends, outputs_of, answers_in}
-use Rattle.front_node.specs.Asking.{Busy, Node, Turn, Turns, GoesOn, Runs, is_over, is_none_left, reply_in}
+use Rattle.front_node.specs.Asking.{Busy, Node, Turn, Turns, GoesOn, Runs, is_none_left, reply_in}
 use Rattle.front_node.specs.Session.{Exchange, Exchanged, Served, sent_to, Visit, IsTurnedAway}
 use Rattle.front_node.proofs.RepliesIn.{reply_in-append}
 use Rattle.my_wire.specs.Duplex.{Passes, Tells, IsFresh}
@@ -186,7 +185,7 @@ begun_rests f g text h =
 -- a statement that is run over the backend in memory is a client's line of the world
 runs_are : (old new : Node Table) (text : List ℕ) (outputs : List Output) → Runs InMemory 1 old text outputs new → NotStarved outputs
     → (requests : List (ℕ × LinkRequest))
-      × (runs (record { front = old.front; table = old.backs; requests = []; answers = [] }) text ≡ (record { front = new.front; table = new.backs; requests = requests; answers = [] }, outputs))
+    × (runs (record { front = old.front; table = old.backs; requests = []; answers = [] }) text ≡ (record { front = new.front; table = new.backs; requests = requests; answers = [] }, outputs))
 runs_are old new text outputs r h = by_given r.given refl where
   whole : NotStarved (outputs_of r.given ++ r.more)
   whole = subst NotStarved r.outputs_are h
@@ -207,8 +206,7 @@ runs_are old new text outputs r h = by_given r.given refl where
       let now : runs (record { front = old.front; table = old.backs; requests = []; answers = [] }) text ≡ runs_on (front_step old.front (Asked 1 text)) = refl in
       let node : (world_of r.end, outputs_of r.given ++ r.more) ≡ (record { front = new.front; table = new.backs; requests = r.end.requests; answers = [] }, outputs) =
       ap (λ (m : Node Table). (record { front = m.front; table = m.backs; requests = r.end.requests; answers = [] }, outputs_of r.given ++ r.more)) (sym r.new_is)
-      ∙ ap (λ os. (record { front = new.front; table = new.backs; requests = r.end.requests; answers = [] }, os)) (sym r.outputs_are) in
-      (
+      ∙ ap (λ os. (record { front = new.front; table = new.backs; requests = r.end.requests; answers = [] }, os)) (sym r.outputs_are) in (
         r.end.requests,
         now ∙ ap runs_on (sym step) ∙ ap (after_outputs given) (turns_are (answers_awaited (work_of r.begun 1)) (busy given) r.end r.more on (not_after (outputs_of r.given) r.more whole))
             ∙ ap (λ os. (world_of r.end, os ++ r.more)) (sym said) ∙ node,

@@ -1,5 +1,5 @@
 -- One session of packets, over a backend in memory.
-use Rattle.std.specs.Prelude.{◌≡◌, ◌≢◌, ◌⊎◌, ℕ, ◌^◌, ◌<◌, List, [], ◌∷◌, Option, Some, None, length, map}
+use Rattle.std.specs.Prelude.{◌≡◌, ◌≢◌, ℕ, ◌^◌, ◌<◌, List, [], ◌∷◌, Option, Some, length, map}
 use Rattle.std.specs.List.{flat_map, AllByRecursion}
 use Rattle.my_wire.specs.Counts.{IsFront}
 use Rattle.my_wire.specs.Packets.{first_packet}

@@ -29,8 +29,8 @@ mod wire_play;
 mod world;
 mod world_play;
 
-use catalog::{ConfFault, is_built};
 pub use catalog::FIRST_CONF;
+use catalog::{ConfFault, is_built};
 use laws::is_plain;
 use my_wire::{End, Files, FilesFault, Sink, Source, Status};
 use outcome::{Object, Outcome, say, status_code};

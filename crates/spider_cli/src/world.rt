@@ -174,12 +174,7 @@ impl World {
     }
 
     /// A statement, and then turns until the session is idle.
-    fn run(
-        &mut self,
-        alloc: Global,
-        statement: &[u8],
-        text: &mut Vec<u8>,
-    ) -> Result<(), AllocError>
+    fn run(&mut self, alloc: Global, statement: &[u8], text: &mut Vec<u8>) -> Result<(), AllocError>
         ensures { OnOk result ((shown self.new, text.new.items) ≡ spoken text.old.items (runs (shown self.old) statement.now)) }
     {
         let statement = Event::Statement {

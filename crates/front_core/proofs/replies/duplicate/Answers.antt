@@ -7,6 +7,9 @@ use Rattle.front_core.proofs.replies.duplicate.Goals as goal
 pub returns-clause-bytes : goal.returns-clause-bytes
 returns-clause-bytes c =
     let fits : SFits w64 c.args.key = search rules in
-    omega (arith, between c.from_string.result (codes "Duplicate entry '") (signed_decimal c.args.key) (codes "' for key 'PRIMARY'")
-    (c.from_string.ensures ∙ c.in_ok-format.ensures.ok ∙ ap (λ k. codes "Duplicate entry '" ++ (signed_decimal k ++ codes "' for key 'PRIMARY'")) (to_z-of_z w64 c.args.key fits))
-    (signed_is_short c.args.key c.ranges.key.sfits))
+    omega (
+      arith,
+      between c.from_string.result (codes "Duplicate entry '") (signed_decimal c.args.key) (codes "' for key 'PRIMARY'")
+          (c.from_string.ensures ∙ c.in_ok-format.ensures.ok ∙ ap (λ k. codes "Duplicate entry '" ++ (signed_decimal k ++ codes "' for key 'PRIMARY'")) (to_z-of_z w64 c.args.key fits))
+          (signed_is_short c.args.key c.ranges.key.sfits),
+    )

@@ -1,4 +1,4 @@
-use Rattle.std.proofs.Common.{◌∙◌, ◌++◌, [], sym, ap, arith, codes, length}
+use Rattle.std.proofs.Common.{◌∙◌, ap, arith, codes, length}
 use Rattle.std.proofs.lemmas.List.{length-append}
 use Rattle.front_node.proofs.replies.unknown_database.Goals as goal
 

@@ -1,5 +1,4 @@
-use Rattle.std.proofs.Common.{◌≡◌, ◌∙◌, refl, sym, ap, subst, arith}
-use Rattle.my_messages.specs.declared.session_end.SessionEnd.{SessionEnd}
+use Rattle.std.proofs.Common.{◌∙◌, refl, sym, subst, arith}
 use Rattle.front_node.specs.Asking.{Node}
 use Rattle.front_node.specs.Serving.{Seat, Serving}
 use Rattle.front_node.specs.Session.{Session}

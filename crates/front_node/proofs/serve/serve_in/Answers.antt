@@ -1,8 +1,8 @@
-use Rattle.std.proofs.Common.{◌≡◌, ◌∙◌, ◌++◌, [], take, refl, sym, ap, subst, arith}
+use Rattle.std.proofs.Common.{◌≡◌, ◌∙◌, ◌++◌, [], take, refl, subst, arith}
 use Rattle.my_wire.specs.Packets.{with_held}
 use Rattle.front_node.specs.Serving.{Seat}
 use Rattle.front_node.specs.Seats.{seat_of}
-use Rattle.front_node.proofs.Sessions.{serving_begins, serving_fed, read_fails, starves, input_ends}
+use Rattle.front_node.proofs.Sessions.{serving_fed, read_fails, starves, input_ends}
 use Rattle.front_node.proofs.serve.serve_in.Goals as goal
 
 pub returns-in-Err-clause-session : goal.returns-in-Err-clause-session

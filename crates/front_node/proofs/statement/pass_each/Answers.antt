@@ -1,4 +1,4 @@
-use Rattle.std.proofs.Common.{◌≡◌, ◌++◌, [], ◌∷◌, ◌∙◌, sym, ap, append_assoc}
+use Rattle.std.proofs.Common.{◌++◌, [], ◌∷◌, ◌∙◌, sym, ap, append_assoc}
 use Rattle.std.specs.Option.{option_or}
 use Rattle.front_core.specs.Outputs.{sends}
 use Rattle.front_core.proofs.Sends.{sends-append}

@@ -1,4 +1,4 @@
-use Rattle.std.proofs.Common.{◌≡◌, ◌+◌, ◌∙◌, ◌∷◌, [], true, false, sym, ap, subst, arith, rules}
+use Rattle.std.proofs.Common.{◌≡◌, ◌+◌, ◌∙◌, ◌∷◌, [], sym, subst, arith, rules}
 use Rattle.std.specs.Prelude.{IfSome}
 use Rattle.my_messages.specs.Reply.{HasBytes}
 use Rattle.front_node.specs.Asking.{Busy, Turn}
