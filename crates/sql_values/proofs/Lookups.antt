@@ -126,8 +126,8 @@ pub value_found : (name : ColumnName) (table : TableDef) (columns : List ColumnD
     v ≡ column_value (table ∷ []) row name
 value_found name table columns row b v e so same found =
     found
-      ∙ ap (λ cs. option_map (λ (found : ColumnDef × Value). found.1) (find (λ (cell : ColumnDef × Value). named name.column cell.0) (zip cs row))) same
-      ∙ sym (value_one name table row ∙ rw (sym e ∙ so) refl)
+    ∙ ap (λ cs. option_map (λ (found : ColumnDef × Value). found.1) (find (λ (cell : ColumnDef × Value). named name.column cell.0) (zip cs row))) same
+    ∙ sym (value_one name table row ∙ rw (sym e ∙ so) refl)
 
 pub kind_none : (name : ColumnName) → column_kind [] name ≡ None
 unfolding column_kind

@@ -4,4 +4,5 @@ pub mod Conditions
 pub mod Expressions
 pub mod Kinds
 pub mod Names
+pub mod Scalars
 pub mod Storing

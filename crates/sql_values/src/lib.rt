@@ -7,6 +7,7 @@
 
 mod checks;
 mod columns;
+mod conditions;
 mod expressions;
 mod literal;
 mod name;
@@ -17,6 +18,7 @@ mod tree;
 mod value;
 
 pub use checks::CheckFault;
+pub use conditions::holds;
 pub use expressions::ValueFault;
 pub use list_types::{Bytes, Text};
 pub use literal::{Literal, Literals};
