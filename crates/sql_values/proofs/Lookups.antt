@@ -61,7 +61,7 @@ find_named name n true (c ∷ cs) e = rw e (found (named name.column c) _ _ _ (f
     found false p here there e = e
 find_named name n false (c ∷ cs) e = rw e (find_named name n false cs e)
 
-map_or : {X Y : Type 0} (f : X → Y) (first second : Option X) → option_map f (option_or first second) ≡ option_or (option_map f first) (option_map f second)
+pub map_or : {X Y : Type 0} (f : X → Y) (first second : Option X) → option_map f (option_or first second) ≡ option_or (option_map f first) (option_map f second)
 map_or f None second = refl
 map_or f (Some x) second = refl
 

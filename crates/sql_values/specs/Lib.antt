@@ -5,4 +5,5 @@ pub mod Expressions
 pub mod Kinds
 pub mod Names
 pub mod Scalars
+pub mod Seeking
 pub mod Storing
