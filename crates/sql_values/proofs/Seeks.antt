@@ -1,11 +1,16 @@
 -- The first name in a trouble, part by part.
-use Rattle.std.proofs.Common.{◌≡◌, ℕ, List, [], ◌∷◌, ◌++◌, refl, find, Option, Some, None}
+use Rattle.std.proofs.Common.{◌≡◌, ℕ, List, [], ◌∷◌, ◌++◌, refl, find, sym, ap, ◌∙◌, Option, Some, None}
 use Rattle.std.specs.Option.{option_map, option_or}
 use Rattle.std.proofs.lemmas.Grind.{common_steps}
 use Rattle.std.proofs.lemmas.List.Folds.{find-append}
 use Rattle.sql_values.specs.declared.checks.Trouble.{Trouble}
 use Rattle.sql_values.specs.declared.table.TableDef.{TableDef}
 use Rattle.sql_values.specs.declared.tree.ColumnName.{ColumnName}
+use Rattle.sql_values.specs.declared.literal.Literal.{Literal as SqlLiteral}
+use Rattle.sql_values.specs.declared.tree.Expr.{Expr, Expr-F}
+use Rattle.sql_values.specs.declared.tree.Expr.TheFolds.{fold-roll-Expr}
+use Rattle.sql_values.specs.declared.tree.Expr.TheVariants.{Literal, rolls-Literal}
+use Rattle.sql_values.specs.Checks.{expr_columns, expr_layer_columns, addend_columns}
 use Rattle.sql_values.specs.Seeking.{has_trouble, first_in_trouble}
 use Rattle.sql_values.proofs.Lookups.{map_or}
 
@@ -19,3 +24,7 @@ unfolding first_in_trouble
 first-nil trouble tables = refl
 
 pub ruleset seeks = (common_steps, first-append, first-nil)
+
+pub expr_columns-Literal : (expr : Expr) (l : SqlLiteral) → expr ≡ Literal l → expr_columns expr ≡ []
+expr_columns-Literal expr l e =
+    rw e (ap expr_columns (sym (rolls-Literal l)) ∙ fold-roll-Expr (List ColumnName) (List ColumnName) expr_layer_columns addend_columns (Expr-F.Literal l))

@@ -16,7 +16,7 @@ use Rattle.sql_values.specs.declared.tree.Cond.TheOpen.{All, Any, Not, Compare, 
 use Rattle.sql_values.specs.declared.tree.Expr.{Expr, Expr-F}
 use Rattle.sql_values.specs.declared.tree.Expr.TheFolds.{fold-Expr}
 use Rattle.sql_values.specs.declared.tree.Expr.TheOpen.{Literal, Column, Negated, Sum, Product}
-use Rattle.sql_values.specs.declared.tree.Addend.{Addend-F}
+use Rattle.sql_values.specs.declared.tree.Addend.{Addend, Addend-F, fold-Addend}
 use Rattle.sql_values.specs.Columns.{columns_meant, column_kind}
 use Rattle.sql_values.specs.Kinds.{literal_kind, are_comparable}
 
@@ -50,6 +50,10 @@ addend_columns part = part.expr
 -- the columns that an expression names, in the order of its text
 abbrev pub expr_columns : Expr → List ColumnName
 expr_columns = fold-Expr (List ColumnName) (List ColumnName) expr_layer_columns addend_columns
+
+-- the columns that a part of a sum names
+abbrev pub columns_of_addend : Addend → List ColumnName
+columns_of_addend = fold-Addend (List ColumnName) (List ColumnName) expr_layer_columns addend_columns
 
 -- no column may be meant, or more than one
 abbrev pub is_unknown : List TableDef → ColumnName → Bool

@@ -3,7 +3,7 @@
 ghost use Rattle.std.specs.Prelude.{◌≡◌, ◌↔◌, ◌⊎◌, ◌&&◌, ◌∷◌, [], map, ◌++◌, IsOk, IfOk, IfErr, Some, None};
 ghost use Rattle.std.specs.List.{list_all, flat_map};
 ghost use Rattle.std.specs.Option.{option_map};
-ghost use Rattle.sql_values.specs.Checks.{is_unknown, is_ambiguous, cond_columns, expr_columns, operand_columns, column_fault as fault_among, operand_kind as kind_among, cond_fits as fits_among, expr_kind as kind_of, is_number as is_number_kind, checked_cond, checked_expr};
+ghost use Rattle.sql_values.specs.Checks.{is_unknown, is_ambiguous, cond_columns, expr_columns, columns_of_addend, operand_columns, column_fault as fault_among, operand_kind as kind_among, cond_fits as fits_among, expr_kind as kind_of, is_number as is_number_kind, checked_cond, checked_expr};
 ghost use Rattle.sql_values.specs.Columns.{column_kind as column_kind_among};
 ghost use Rattle.sql_values.specs.Kinds.{literal_kind as kind_of_literal, is_alike as are_alike_kinds, are_comparable as are_comparable_kinds};
 ghost use Rattle.sql_values.specs.Seeking.{has_trouble, first_in_trouble};
@@ -124,6 +124,57 @@ fn seek_parts<'a>(trouble: Trouble, tables: &[TableDef], parts: &'a [Cond]) -> O
 {
     for part in parts {
         if let Some(name) = seek(trouble, tables, part) {
+            return Some(name);
+        }
+    }
+    None
+}
+
+#[cycle(seeking_in_expr)]
+#[tactic(auto, using(crate::proofs::Seeks::seeks))]
+fn seek_in_expr<'a>(trouble: Trouble, tables: &[TableDef], expr: &'a Expr) -> Option<&'a Name>
+    ensures { option_map (λ n. n.now) result ≡ first_in_trouble trouble tables.now (expr_columns expr.now) }
+{
+    match expr {
+        Expr::Literal(_) => None,
+        Expr::Column(name) => seek_column(trouble, tables, name),
+        Expr::Negated(part) => seek_in_expr(trouble, tables, part.get()),
+        Expr::Sum(parts) => seek_in_addends(trouble, tables, parts.as_slice()),
+        Expr::Product(parts) => seek_in_factors(trouble, tables, parts.as_slice()),
+    }
+}
+
+#[cycle(seeking_in_expr)]
+fn seek_in_addend<'a>(trouble: Trouble, tables: &[TableDef], part: &'a Addend) -> Option<&'a Name>
+    ensures { option_map (λ n. n.now) result ≡ first_in_trouble trouble tables.now (columns_of_addend part.now) }
+{
+    seek_in_expr(trouble, tables, &part.expr)
+}
+
+#[cycle(seeking_in_expr)]
+#[tactic(auto, using(crate::proofs::Seeks::seeks))]
+fn seek_in_addends<'a>(
+    trouble: Trouble,
+    tables: &[TableDef],
+    parts: &'a [Addend],
+) -> Option<&'a Name>
+    ensures { option_map (λ n. n.now) result ≡ first_in_trouble trouble tables.now (flat_map (λ part. part) (map columns_of_addend parts.now)) }
+{
+    for part in parts {
+        if let Some(name) = seek_in_addend(trouble, tables, part) {
+            return Some(name);
+        }
+    }
+    None
+}
+
+#[cycle(seeking_in_expr)]
+#[tactic(auto, using(crate::proofs::Seeks::seeks))]
+fn seek_in_factors<'a>(trouble: Trouble, tables: &[TableDef], parts: &'a [Expr]) -> Option<&'a Name>
+    ensures { option_map (λ n. n.now) result ≡ first_in_trouble trouble tables.now (flat_map (λ part. part) (map expr_columns parts.now)) }
+{
+    for part in parts {
+        if let Some(name) = seek_in_expr(trouble, tables, part) {
             return Some(name);
         }
     }
