@@ -115,6 +115,9 @@ addend_kind part = part.expr
 abbrev pub expr_kind : List TableDef → Expr → Option Kind
 expr_kind tables = fold-Expr (Option Kind) (Option Kind) (layer_kind tables) addend_kind
 
+abbrev pub kind_of_addend : List TableDef → Addend → Option Kind
+kind_of_addend tables = fold-Addend (Option Kind) (Option Kind) (layer_kind tables) addend_kind
+
 -- what `check_expr` answers
 abbrev pub checked_expr : Expr → TableDef → Result Kind CheckFault
 checked_expr expr table = after_columns (column_fault (table ∷ []) (expr_columns expr)) (expr_kind (table ∷ []) expr)

@@ -1,14 +1,15 @@
 //! Whether a condition or an expression fits its tables.
 
-ghost use Rattle.std.specs.Prelude.{◌≡◌, ◌↔◌, ◌⊎◌, ◌&&◌, ◌∷◌, [], map, ◌++◌, IsOk, IfOk, IfErr, Some, None};
+ghost use Rattle.std.specs.Prelude.{◌≡◌, ◌↔◌, ◌⊎◌, ◌&&◌, ◌∷◌, [], map, ◌++◌, if◌then◌else◌, IsOk, IfOk, IfErr, Some, None};
 ghost use Rattle.std.specs.List.{list_all, flat_map};
 ghost use Rattle.std.specs.Option.{option_map};
-ghost use Rattle.sql_values.specs.Checks.{is_unknown, is_ambiguous, cond_columns, expr_columns, columns_of_addend, operand_columns, column_fault as fault_among, operand_kind as kind_among, cond_fits as fits_among, expr_kind as kind_of, is_number as is_number_kind, checked_cond, checked_expr};
+ghost use Rattle.sql_values.specs.Checks.{is_unknown, is_ambiguous, cond_columns, expr_columns, columns_of_addend, operand_columns, column_fault as fault_among, operand_kind as kind_among, cond_fits as fits_among, expr_kind as kind_of, is_number as is_number_kind, kind_of_addend, checked_cond, checked_expr};
 ghost use Rattle.sql_values.specs.Columns.{column_kind as column_kind_among};
 ghost use Rattle.sql_values.specs.Kinds.{literal_kind as kind_of_literal, is_alike as are_alike_kinds, are_comparable as are_comparable_kinds};
 ghost use Rattle.sql_values.specs.Seeking.{has_trouble, first_in_trouble};
 
 use crate::columns::{column_kind, count_meant};
+use crate::kinds::are_comparable;
 use crate::{Addend, ColumnName, Cond, Expr, Kind, Literal, Name, Operand, TableDef, TableDefs};
 use std::alloc::AllocError;
 
@@ -179,4 +180,135 @@ fn seek_in_factors<'a>(trouble: Trouble, tables: &[TableDef], parts: &'a [Expr])
         }
     }
     None
+}
+
+fn operand_kind(operand: &Operand, tables: &[TableDef]) -> Option<Kind>
+    ensures { result ≡ kind_among tables.now operand.now }
+{
+    match operand {
+        Operand::Column(name) => column_kind(name, tables),
+        Operand::Literal(literal) => literal.kind(),
+    }
+}
+
+fn fits_list(kind: Option<Kind>, list: &[Literal]) -> bool
+    ensures { result ≡ list_all (λ l. are_comparable_kinds kind (kind_of_literal l)) list.now }
+{
+    for literal in list {
+        if !are_comparable(kind, literal.kind()) {
+            return false;
+        }
+    }
+    true
+}
+
+/// Whether the values that meet in the condition can be compared.
+#[cycle(fitting)]
+fn fits(cond: &Cond, tables: &[TableDef]) -> bool
+    ensures { result ≡ fits_among tables.now cond.now }
+{
+    match cond {
+        Cond::All(parts) => fit(parts.as_slice(), tables),
+        Cond::Any(parts) => fit(parts.as_slice(), tables),
+        Cond::Not(part) => fits(part.get(), tables),
+        Cond::Compare {
+            left,
+            comparison: _,
+            right,
+        } => are_comparable(operand_kind(left, tables), operand_kind(right, tables)),
+        Cond::In {
+            column,
+            negated: _,
+            list,
+        } => fits_list(column_kind(column, tables), list.as_slice()),
+        Cond::Between {
+            column,
+            negated: _,
+            low,
+            high,
+        } => fits_between(column_kind(column, tables), low, high),
+    }
+}
+
+fn fits_between(kind: Option<Kind>, low: &Literal, high: &Literal) -> bool
+    ensures { result ≡ (are_comparable_kinds kind (kind_of_literal low.now) && are_comparable_kinds kind (kind_of_literal high.now)) }
+{
+    are_comparable(kind, low.kind()) && are_comparable(kind, high.kind())
+}
+
+#[cycle(fitting)]
+fn fit(parts: &[Cond], tables: &[TableDef]) -> bool
+    ensures { result ≡ list_all (λ part. part) (map (fits_among tables.now) parts.now) }
+{
+    for part in parts {
+        if !fits(part, tables) {
+            return false;
+        }
+    }
+    true
+}
+
+fn is_number(kind: Option<Kind>) -> bool
+    ensures { result ≡ is_number_kind kind }
+{
+    match kind {
+        Some(Kind::BigInt) => true,
+        Some(Kind::VarChar(_)) => false,
+        None => false,
+    }
+}
+
+fn number_if(are_numbers: bool) -> Option<Kind>
+    ensures { result ≡ (if are_numbers then Some Kind.BigInt else None) }
+{
+    if are_numbers {
+        Some(Kind::BigInt)
+    } else {
+        None
+    }
+}
+
+/// The kind of an expression whose columns are there.
+#[cycle(kinds)]
+fn expr_kind(expr: &Expr, tables: &[TableDef]) -> Option<Kind>
+    ensures { result ≡ kind_of tables.now expr.now }
+{
+    match expr {
+        Expr::Literal(literal) => literal.kind(),
+        Expr::Column(name) => column_kind(name, tables),
+        Expr::Negated(part) => number_if(is_number(expr_kind(part.get(), tables))),
+        Expr::Sum(parts) => number_if(are_addends(parts.as_slice(), tables)),
+        Expr::Product(parts) => number_if(are_factors(parts.as_slice(), tables)),
+    }
+}
+
+#[cycle(kinds)]
+fn addend_kind(part: &Addend, tables: &[TableDef]) -> Option<Kind>
+    ensures { result ≡ kind_of_addend tables.now part.now }
+{
+    expr_kind(&part.expr, tables)
+}
+
+#[cycle(kinds)]
+fn are_addends(parts: &[Addend], tables: &[TableDef]) -> bool
+    ensures { result ≡ list_all is_number_kind (map (kind_of_addend tables.now) parts.now) }
+{
+    for part in parts {
+        if !is_number(addend_kind(part, tables)) {
+            return false;
+        }
+    }
+    true
+}
+
+#[cycle(kinds)]
+fn are_factors(parts: &[Expr], tables: &[TableDef]) -> bool
+    ensures { result ≡ list_all is_number_kind (map (kind_of tables.now) parts.now) }
+{
+    for part in parts {
+        if !is_number(expr_kind(part, tables)) {
+            return false;
+        }
+    }
+    true
 }

@@ -9,6 +9,7 @@ mod checks;
 mod columns;
 mod conditions;
 mod expressions;
+mod kinds;
 mod literal;
 mod name;
 mod places;

@@ -6,4 +6,4 @@ use Rattle.sql_values.proofs.checks.+seeking_in_expr.Goals as goal
 pub seek_in_expr-returns-in-Literal : goal.seek_in_expr-returns-in-Literal
 seek_in_expr-returns-in-Literal g c =
     sym (first-nil c.args.trouble c.args.tables.now)
-      ∙ ap (first_in_trouble c.args.trouble c.args.tables.now) (sym (expr_columns-Literal c.args.expr.now _ c.in-Literal.is))
+    ∙ ap (first_in_trouble c.args.trouble c.args.tables.now) (sym (expr_columns-Literal c.args.expr.now _ c.in-Literal.is))
