@@ -62,12 +62,17 @@ is_unknown tables name = length (columns_meant name tables) == 0
 abbrev pub is_ambiguous : List TableDef → ColumnName → Bool
 is_ambiguous tables name = nat_lt 1 (length (columns_meant name tables))
 
--- the first name that means no column; where each means one, the first that may mean several
+-- the first of these names that passes the test, without its qualifier
+unfoldable pub first_column : (ColumnName → Bool) → List ColumnName → Option (List ℕ)
+first_column test names = option_map (λ (name : ColumnName). name.column) (find test names)
+
+-- a column that no table has, or else one that several have
+abbrev pub named_fault : Option (List ℕ) → Option (List ℕ) → Option CheckFault
+named_fault unknown ambiguous = option_or (option_map NoColumn unknown) (option_map Ambiguous ambiguous)
+
+-- the first of these names that means no column; where each means one, the first that may mean several
 abbrev pub column_fault : List TableDef → List ColumnName → Option CheckFault
-column_fault tables names =
-    option_or
-    (option_map (λ (name : ColumnName). NoColumn name.column) (find (is_unknown tables) names))
-    (option_map (λ (name : ColumnName). Ambiguous name.column) (find (is_ambiguous tables) names))
+column_fault tables names = named_fault (first_column (is_unknown tables) names) (first_column (is_ambiguous tables) names)
 
 -- the fault of the columns; where they have none, what was found, or else a mismatch of types
 abbrev pub after_columns : {T : Type 0} → Option CheckFault → Option T → Result T CheckFault

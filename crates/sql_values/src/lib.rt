@@ -18,7 +18,7 @@ mod table;
 mod tree;
 mod value;
 
-pub use checks::CheckFault;
+pub use checks::{CheckFault, check_cond, check_expr};
 pub use conditions::holds;
 pub use expressions::ValueFault;
 pub use list_types::{Bytes, Text};
