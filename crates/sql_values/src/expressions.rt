@@ -1,3 +1,15 @@
+//! The value of an expression on a row.
+
+ghost use Rattle.std.specs.Prelude.{◌≡◌, ◌⊎◌, ◌∷◌, [], List, ℕ, map, fold, pos, neg_ℤ, unwrap_or, option_and_then, IfOk, IfErr, IsErrOf, IsSomeAnd, IsNone, Some};
+ghost use Rattle.std.specs.Option.{option_map};
+ghost use Rattle.sql_values.specs.Columns.{column_value as value_among};
+ghost use Rattle.sql_values.specs.Expressions.{big_int, number_of, literal_value as value_of_literal, with_addend as after_addend, with_factor as after_factor, expr_value, value_of_addend};
+
+use crate::columns::column_value;
+use crate::{Addend, ColumnName, Expr, Literal, Row, TableDef, Text, Value};
+use std::alloc::{AllocError, Global};
+use std::slice;
+
 /// Why an expression has no value.
 #[derive(Debug, Drop)]
 pub enum ValueFault {
@@ -5,4 +17,72 @@ pub enum ValueFault {
     OutOfRange,
     /// There wasn't enough memory.
     NoMemory,
+}
+
+impl From<AllocError> for ValueFault {
+    ghost use Rattle.std.specs.Prelude.{◌≡◌};
+    ghost use Rattle.sql_values.specs.declared.expressions.ValueFault.TheVariants.{NoMemory};
+
+    ghost from_gives = { λ _ fault. fault ≡ NoMemory };
+
+    fn from(_error: AllocError) -> ValueFault {
+        ValueFault::NoMemory
+    }
+}
+
+/// The number as a BIGINT, where it is one.
+pub(crate) fn to_big_int(number: i128) -> Option<i64>
+    ensures { result ≡ big_int number }
+{
+    i64::try_from(number).ok()
+}
+
+fn negated(number: i64) -> Option<i64>
+    ensures { result ≡ big_int (neg_ℤ number) }
+{
+    to_big_int(-i128::from(number))
+}
+
+fn with_addend(total: i64, subtracted: bool, number: i64) -> Option<i64>
+    ensures { result ≡ after_addend (Some total) (subtracted, Some number) }
+{
+    if subtracted {
+        to_big_int(i128::from(total) - i128::from(number))
+    } else {
+        to_big_int(i128::from(total) + i128::from(number))
+    }
+}
+
+fn with_factor(total: i64, number: i64) -> Option<i64>
+    ensures { result ≡ after_factor (Some total) (Some number) }
+{
+    to_big_int(i128::from(total) * i128::from(number))
+}
+
+fn value_number(value: &Value) -> i64
+    ensures { result ≡ number_of value.now }
+{
+    match value {
+        Value::Number(number) => *number,
+        Value::Text(_) => 0,
+    }
+}
+
+fn literal_number(literal: &Literal) -> Option<i64>
+    ensures { result ≡ option_map number_of (value_of_literal literal.now) }
+{
+    match literal {
+        Literal::Number(number) => to_big_int(*number),
+        Literal::Text(_) => Some(0),
+        Literal::Null => Some(0),
+    }
+}
+
+fn column_number(name: &ColumnName, table: &TableDef, row: &[Value]) -> i64
+    ensures { result ≡ number_of (unwrap_or (value_among (table.now ∷ []) row.now name.now) (Value.Number (pos 0))) }
+{
+    match column_value(name, slice::from_ref(table), row) {
+        Some(value) => value_number(value),
+        None => 0,
+    }
 }
