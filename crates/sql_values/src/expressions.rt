@@ -43,20 +43,28 @@ fn negated(number: i64) -> Option<i64>
     to_big_int(-i128::from(number))
 }
 
-fn with_addend(total: i64, subtracted: bool, number: i64) -> Option<i64>
-    ensures { result ≡ after_addend (Some total) (subtracted, Some number) }
+fn with_addend(total: Option<i64>, subtracted: bool, number: Option<i64>) -> Option<i64>
+    ensures { result ≡ after_addend total (subtracted, number) }
 {
-    if subtracted {
-        to_big_int(i128::from(total) - i128::from(number))
-    } else {
-        to_big_int(i128::from(total) + i128::from(number))
+    match (total, number) {
+        (Some(total), Some(number)) => {
+            if subtracted {
+                to_big_int(i128::from(total) - i128::from(number))
+            } else {
+                to_big_int(i128::from(total) + i128::from(number))
+            }
+        }
+        _ => None,
     }
 }
 
-fn with_factor(total: i64, number: i64) -> Option<i64>
-    ensures { result ≡ after_factor (Some total) (Some number) }
+fn with_factor(total: Option<i64>, number: Option<i64>) -> Option<i64>
+    ensures { result ≡ after_factor total number }
 {
-    to_big_int(i128::from(total) * i128::from(number))
+    match (total, number) {
+        (Some(total), Some(number)) => to_big_int(i128::from(total) * i128::from(number)),
+        _ => None,
+    }
 }
 
 fn value_number(value: &Value) -> i64
@@ -85,4 +93,56 @@ fn column_number(name: &ColumnName, table: &TableDef, row: &[Value]) -> i64
         Some(value) => value_number(value),
         None => 0,
     }
+}
+
+fn negated_if_any(number: Option<i64>) -> Option<i64>
+    ensures { result ≡ option_and_then (λ n. big_int (neg_ℤ n)) number }
+{
+    match number {
+        Some(number) => negated(number),
+        None => None,
+    }
+}
+
+/// The number of the expression on a row, without taking memory.
+#[cycle(counting)]
+fn number(expr: &Expr, table: &TableDef, row: &[Value]) -> Option<i64>
+    ensures { result ≡ option_map number_of (expr_value table.now row.now expr.now) }
+{
+    match expr {
+        Expr::Literal(literal) => literal_number(literal),
+        Expr::Column(name) => Some(column_number(name, table, row)),
+        Expr::Negated(part) => negated_if_any(number(part.get(), table, row)),
+        Expr::Sum(parts) => sum(parts.as_slice(), table, row),
+        Expr::Product(parts) => product(parts.as_slice(), table, row),
+    }
+}
+
+#[cycle(counting)]
+fn addend_number(part: &Addend, table: &TableDef, row: &[Value]) -> Option<i64>
+    ensures { (part.now.subtracted, result) ≡ value_of_addend table.now row.now part.now }
+{
+    number(&part.expr, table, row)
+}
+
+#[cycle(counting)]
+fn sum(parts: &[Addend], table: &TableDef, row: &[Value]) -> Option<i64>
+    ensures { result ≡ fold after_addend (Some (pos 0)) (map (value_of_addend table.now row.now) parts.now) }
+{
+    let mut total = Some(0);
+    for part in parts {
+        total = with_addend(total, part.subtracted, addend_number(part, table, row));
+    }
+    total
+}
+
+#[cycle(counting)]
+fn product(parts: &[Expr], table: &TableDef, row: &[Value]) -> Option<i64>
+    ensures { result ≡ fold (λ total part. after_factor total (option_map number_of part)) (Some (pos 1)) (map (expr_value table.now row.now) parts.now) }
+{
+    let mut total = Some(1);
+    for part in parts {
+        total = with_factor(total, number(part, table, row));
+    }
+    total
 }
