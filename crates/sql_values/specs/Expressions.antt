@@ -61,3 +61,8 @@ expr_value table row = fold-Expr (Option Value) (Bool × Option ℤ) (layer_valu
 
 abbrev pub value_of_addend : TableDef → List Value → Addend → Bool × Option ℤ
 value_of_addend table row = fold-Addend (Option Value) (Bool × Option ℤ) (layer_value (table ∷ []) row) addend_value
+
+-- the text that a value is
+abbrev pub text_of : Value → Option (List ℕ)
+text_of (Number n) = None
+text_of (Text t) = Some t

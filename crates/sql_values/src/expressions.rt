@@ -1,9 +1,9 @@
 //! The value of an expression on a row.
 
-ghost use Rattle.std.specs.Prelude.{◌≡◌, ◌⊎◌, ◌∷◌, [], List, ℕ, map, fold, pos, neg_ℤ, unwrap_or, option_and_then, IfOk, IfErr, IsErrOf, IsSomeAnd, IsNone, Some};
+ghost use Rattle.std.specs.Prelude.{◌≡◌, ◌∷◌, [], map, fold, pos, neg_ℤ, unwrap_or, option_and_then, IfOk, IsErrOf, IsSome, Some, None};
 ghost use Rattle.std.specs.Option.{option_map};
 ghost use Rattle.sql_values.specs.Columns.{column_value as value_among};
-ghost use Rattle.sql_values.specs.Expressions.{big_int, number_of, literal_value as value_of_literal, with_addend as after_addend, with_factor as after_factor, expr_value, value_of_addend};
+ghost use Rattle.sql_values.specs.Expressions.{big_int, number_of, text_of, literal_value as value_of_literal, with_addend as after_addend, with_factor as after_factor, expr_value, value_of_addend};
 
 use crate::columns::column_value;
 use crate::{Addend, ColumnName, Expr, Literal, Row, TableDef, Text, Value};
@@ -145,4 +145,67 @@ fn product(parts: &[Expr], table: &TableDef, row: &[Value]) -> Option<i64>
         total = with_factor(total, number(part, table, row));
     }
     total
+}
+
+fn value_text(value: &Value) -> Option<&str>
+    ensures { option_map (λ t. t.now) result ≡ text_of value.now }
+{
+    match value {
+        Value::Number(_) => None,
+        Value::Text(text) => Some(text.as_str()),
+    }
+}
+
+fn literal_text(literal: &Literal) -> Option<&str>
+    ensures { option_map (λ t. t.now) result ≡ option_and_then text_of (value_of_literal literal.now) }
+{
+    match literal {
+        Literal::Number(_) => None,
+        Literal::Text(text) => Some(text.as_str()),
+        Literal::Null => None,
+    }
+}
+
+fn column_text<'a>(name: &ColumnName, table: &TableDef, row: &'a [Value]) -> Option<&'a str>
+    ensures { option_map (λ t. t.now) result ≡ text_of (unwrap_or (value_among (table.now ∷ []) row.now name.now) (Value.Number (pos 0))) }
+{
+    match column_value(name, slice::from_ref(table), row) {
+        Some(value) => value_text(value),
+        None => None,
+    }
+}
+
+/// The text that the expression is: only a column or a literal alone can be one.
+#[tactic(auto, using(crate::proofs::Values::values))]
+fn text<'a>(expr: &'a Expr, table: &TableDef, row: &'a [Value]) -> Option<&'a str>
+    ensures { option_map (λ t. t.now) result ≡ option_and_then text_of (expr_value table.now row.now expr.now) }
+{
+    match expr {
+        Expr::Literal(literal) => literal_text(literal),
+        Expr::Column(name) => column_text(name, table, row),
+        Expr::Negated(_) => None,
+        Expr::Sum(_) => None,
+        Expr::Product(_) => None,
+    }
+}
+
+/// The value of an expression on a row of a table.
+///
+/// Each literal and each partial result, from the left, has to be in the range of a BIGINT: else it is `OutOfRange`. Memory is taken for a text alone.
+///
+/// The expression is to be one that [`check_expr`](crate::check_expr) accepts for the table. In any other, NULL, a column that isn't there and a text that is counted with are 0.
+#[tactic(auto, using(crate::proofs::Values::values))]
+pub fn eval(alloc: Global, expr: &Expr, table: &TableDef, row: &Row) -> Result<Value, ValueFault>
+    ensures value { IfOk result (λ v. expr_value table.now row.now expr.now ≡ Some v) }
+    ensures range { IsErrOf result ValueFault.OutOfRange → expr_value table.now row.now expr.now ≡ None }
+    ensures memory { IsErrOf result ValueFault.NoMemory → IsSome (option_and_then text_of (expr_value table.now row.now expr.now)) }
+{
+    let row = row.as_slice();
+    if let Some(text) = text(expr, table, row) {
+        return Ok(Value::Text(Text::from_str(alloc, text)?));
+    }
+    match number(expr, table, row) {
+        Some(number) => Ok(Value::Number(number)),
+        None => Err(ValueFault::OutOfRange),
+    }
 }

@@ -20,7 +20,7 @@ mod value;
 
 pub use checks::{CheckFault, check_cond, check_expr};
 pub use conditions::holds;
-pub use expressions::ValueFault;
+pub use expressions::{ValueFault, eval};
 pub use list_types::{Bytes, Text};
 pub use literal::{Literal, Literals};
 pub use name::{LONGEST_NAME, Name, is_name_text};
