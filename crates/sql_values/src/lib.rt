@@ -27,7 +27,7 @@ pub use name::{LONGEST_NAME, Name, is_name_text};
 pub use places::{
     Interval, Keys, LinkNo, LockMode, PartNo, PartNos, ServerNo, ServerNos, TableNo, Xid, Xids,
 };
-pub use storage::StoreFault;
+pub use storage::{StoreFault, size, store};
 pub use table::{ColumnDef, ColumnDefs, Kind, TableDef, TableDefs};
 pub use tree::{Addend, ColumnName, Comparison, Cond, Expr, Operand};
 pub use value::{Row, Rows, Value};
