@@ -8,11 +8,13 @@
 mod checks;
 mod columns;
 mod conditions;
+mod copies;
 mod expressions;
 mod kinds;
 mod literal;
 mod name;
 mod places;
+mod sameness;
 mod storage;
 mod table;
 mod tree;
