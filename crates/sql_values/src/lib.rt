@@ -33,3 +33,6 @@ pub use storage::{StoreFault, size, store};
 pub use table::{ColumnDef, ColumnDefs, Kind, TableDef, TableDefs};
 pub use tree::{Addend, ColumnName, Comparison, Cond, Expr, Operand};
 pub use value::{Row, Rows, Value};
+
+#[cfg(test)]
+mod tests;
