@@ -1,19 +1,17 @@
 -- What the checks are for: on rows of the tables, values meet others of their type, and each column has one.
-use Rattle.std.specs.Prelude.{◌≡◌, ℕ, Bool, true, false, List, [], ◌∷◌, Option, Some, IsSome, IfSome, IsSomeAnd}
+use Rattle.std.specs.Prelude.{◌≡◌, ℕ, Bool, true, false, List, Some, IsSome, IsSomeAnd}
 use Rattle.std.specs.Cmp.Lexicographic.{pointwise}
 use Rattle.sql_values.specs.declared.table.ColumnDef.{ColumnDef}
 use Rattle.sql_values.specs.declared.table.Kind.{Kind}
 use Rattle.sql_values.specs.declared.table.Kind.TheVariants.{BigInt, VarChar}
 use Rattle.sql_values.specs.declared.table.TableDef.{TableDef}
 use Rattle.sql_values.specs.declared.tree.ColumnName.{ColumnName}
-use Rattle.sql_values.specs.declared.tree.Expr.{Expr}
 use Rattle.sql_values.specs.declared.tree.Operand.{Operand}
 use Rattle.sql_values.specs.declared.value.Value.{Value}
 use Rattle.sql_values.specs.declared.value.Value.TheVariants.{Number, Text}
-use Rattle.sql_values.specs.Checks.{operand_kind, expr_kind}
+use Rattle.sql_values.specs.Checks.{operand_kind}
 use Rattle.sql_values.specs.Columns.{columns_of, column_kind, column_value}
 use Rattle.sql_values.specs.Conditions.{operand_literal, order_of}
-use Rattle.sql_values.specs.Expressions.{expr_value}
 use Rattle.sql_values.specs.Kinds.{are_comparable}
 
 -- the value is a number where the kind is BIGINT, and a text where it is VARCHAR
@@ -38,9 +36,3 @@ OperandsHaveAnOrder =
     (tables : List TableDef) (row : List Value) (left right : Operand) → is_row tables row ≡ true →
     are_comparable (operand_kind tables left) (operand_kind tables right) ≡ true →
     IsSome (order_of (operand_literal tables row left) (operand_literal tables row right))
-
--- the value of an expression with a kind is of that kind
-abbrev pub ExpressionsKeepTheirKind : Type 0
-ExpressionsKeepTheirKind =
-    (table : TableDef) (row : List Value) (expr : Expr) (kind : Kind) → is_row (table ∷ []) row ≡ true → expr_kind (table ∷ []) expr ≡ Some kind →
-    IfSome (expr_value table row expr) (λ value. is_of kind value ≡ true)

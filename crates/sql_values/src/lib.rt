@@ -24,7 +24,7 @@ mod value;
 pub use checks::{CheckFault, check_cond, check_expr};
 pub use conditions::holds;
 pub use expressions::{ValueFault, eval};
-pub use laws::columns_have_values;
+pub use laws::{columns_have_values, operands_have_an_order};
 pub use list_types::{Bytes, Text};
 pub use literal::{Literal, Literals};
 pub use name::{LONGEST_NAME, Name, is_name_text};

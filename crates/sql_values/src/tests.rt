@@ -165,7 +165,10 @@ fn columns_compare(
 }
 
 fn number_compares(rt: &HostRuntime, comparison: Comparison, number: i128) -> Result<bool, Fail> {
-    holds_here(rt, with_literal(rt, "t", "k", comparison, Literal::Number(number))?)
+    holds_here(
+        rt,
+        with_literal(rt, "t", "k", comparison, Literal::Number(number))?,
+    )
 }
 
 fn text_compares(rt: &HostRuntime, comparison: Comparison, other: &str) -> Result<bool, Fail> {
@@ -232,7 +235,10 @@ fn any(rt: &HostRuntime, first: bool, second: bool) -> Result<bool, Fail> {
 }
 
 fn none(rt: &HostRuntime) -> Result<bool, Fail> {
-    holds_here(rt, Cond::Not(Boxed::new(rt.alloc(), between(rt, true, 2, 2)?)?))
+    holds_here(
+        rt,
+        Cond::Not(Boxed::new(rt.alloc(), between(rt, true, 2, 2)?)?),
+    )
 }
 
 #[test]
@@ -240,7 +246,11 @@ fn lists_and_intervals_hold(rt: HostRuntime) -> Result<(), Fail> {
     // The column has 2, and both ends of BETWEEN are within.
     assert!(rt; is_one_of(&rt, false)?);
     assert!(rt; !is_one_of(&rt, true)?);
-    for (negated, low, high, want) in [(false, 2, 2, true), (false, 3, 1, false), (true, 3, 4, true)] {
+    for (negated, low, high, want) in [
+        (false, 2, 2, true),
+        (false, 3, 1, false),
+        (true, 3, 4, true),
+    ] {
         assert_eq!(rt; lies_between(&rt, negated, low, high)?, want);
     }
     Ok(())
@@ -263,7 +273,10 @@ fn columns_check(
 }
 
 fn null_checks(rt: &HostRuntime) -> Result<&'static str, Fail> {
-    checked(rt, with_literal(rt, "t", "k", Comparison::Equal, Literal::Null)?)
+    checked(
+        rt,
+        with_literal(rt, "t", "k", Comparison::Equal, Literal::Null)?,
+    )
 }
 
 fn list_checks(rt: &HostRuntime) -> Result<&'static str, Fail> {
@@ -312,7 +325,11 @@ fn value(rt: &HostRuntime, expr: Expr) -> Result<Option<i64>, Fail> {
     }
     match eval(rt.alloc(), &copy, &table(rt, "t", "v", 4)?, &row(rt)?) {
         Ok(Value::Number(number)) => Ok(Some(number)),
-        Ok(Value::Text(text)) => Ok(if text.as_str() == "ab" { Some(-1) } else { None }),
+        Ok(Value::Text(text)) => Ok(if text.as_str() == "ab" {
+            Some(-1)
+        } else {
+            None
+        }),
         Err(ValueFault::OutOfRange) => Ok(None),
         Err(ValueFault::NoMemory) => Err(Fail::from("memory")),
     }
@@ -342,9 +359,15 @@ fn column_value(rt: &HostRuntime) -> Result<Option<i64>, Fail> {
 #[test]
 fn sums_have_values(rt: HostRuntime) -> Result<(), Fail> {
     let most = i128::from(i64::MAX);
-    assert_eq!(rt; sum_value(&rt, &[(false, 7), (true, 2), (false, 1)])?, Some(6));
+    assert_eq!(rt;
+        sum_value(&rt, &[(false, 7), (true, 2), (false, 1)])?,
+        Some(6)
+    );
     // A partial result is out of range, though the whole wouldn't be.
-    assert_eq!(rt; sum_value(&rt, &[(false, most), (false, 1), (true, 1)])?, None);
+    assert_eq!(rt;
+        sum_value(&rt, &[(false, most), (false, 1), (true, 1)])?,
+        None
+    );
     Ok(())
 }
 
@@ -359,12 +382,14 @@ fn expressions_have_values(rt: HostRuntime) -> Result<(), Fail> {
 }
 
 fn kind(rt: &HostRuntime, expr: Expr) -> Result<&'static str, Fail> {
-    Ok(match check_expr(rt.alloc(), &expr, &table(rt, "t", "v", 4)?) {
-        Ok(Kind::BigInt) => "number",
-        Ok(Kind::VarChar(4)) => "text of 4",
-        Ok(Kind::VarChar(_)) => "text",
-        Err(fault) => told(fault),
-    })
+    Ok(
+        match check_expr(rt.alloc(), &expr, &table(rt, "t", "v", 4)?) {
+            Ok(Kind::BigInt) => "number",
+            Ok(Kind::VarChar(4)) => "text of 4",
+            Ok(Kind::VarChar(_)) => "text",
+            Err(fault) => told(fault),
+        },
+    )
 }
 
 fn column_kind(rt: &HostRuntime) -> Result<&'static str, Fail> {
