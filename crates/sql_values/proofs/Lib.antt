@@ -1,0 +1,4 @@
+mod Lookups
+mod Seeks
+mod Values
+mod Kept

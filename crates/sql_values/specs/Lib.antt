@@ -1,1 +1,10 @@
+pub mod Checks
+pub mod Columns
+pub mod Conditions
+pub mod Expressions
+pub mod Kinds
+pub mod Laws
 pub mod Names
+pub mod Scalars
+pub mod Seeking
+pub mod Storing
