@@ -1,3 +1,3 @@
+pub mod Changes
 pub mod Crashes
 pub mod Moments
-pub mod Replays

@@ -3,8 +3,9 @@ use Rattle.std.proofs.Common.{◌≡◌, inl, inr, ⊎_elim, ℕ, suc, ◌+◌, 
 use Rattle.std.specs.Prelude.{Option, Some, None, option_map}
 use Rattle.std.proofs.lemmas.Bool.{cases_eq}
 use Rattle.std.proofs.lemmas.List.{take_at, drop_at, drop_more}
-use Rattle.disk_core.specs.DiskModel.{Wrote, DiskState, Torn, MayLeave, IsSure, LeavesOnly, FailsToWrite, Becomes, patched, changed, written, synced}
+use Rattle.disk_core.specs.DiskModel.{Wrote, DiskState, Torn, MayLeave, IsSure, LeavesOnly, FailsToWrite, Becomes, patched, changed_by, sure_now, written, synced}
 use Rattle.disk_core.proofs.Moments.{started, goes_on}
+use Rattle.record_log.proofs.Told.{some_same}
 use Rattle.record_log.specs.Crash.{IsOpened, IsTorn, Waits}
 
 -- a list is its first n, the next one, and the rest
@@ -46,9 +47,9 @@ module _ (s : DiskState) (place : ℕ) (frame : List ℕ) (w : Waits s place) wh
       let front : take (place + 1) bytes ≡ w.front ++ (gate ∷ []) = ap (λ (n : ℕ). take n bytes) (sym least) ∙ torn.before ∙ gated in
       inl (gate, drop (place + 1) bytes, w.shut.2, sym (take-append-drop (place + 1) bytes) ∙ ap (λ (l : List ℕ). l ++ drop (place + 1) bytes) front ∙ append_assoc w.front (gate ∷ []) (drop (place + 1) bytes))
 
-  first_image : (bytes : List ℕ) → MayLeave (changed s (Wrote (place + 1) frame)) bytes → P bytes
+  first_image : (bytes : List ℕ) → MayLeave (changed_by (Wrote (place + 1) frame) s.now) bytes → P bytes
   first_image bytes left =
-      let torn = subst (λ m. MayLeave (record { sure = m.sure; since = m.since ++ Wrote (place + 1) frame ∷ [] }) bytes) w.sure left in
+      let torn = subst (λ m. MayLeave (changed_by (Wrote (place + 1) frame) m) bytes) w.sure left in
       subst P (sym torn.2) (staged torn.0 torn.1)
 
   abbrev pub s1 : DiskState
@@ -64,11 +65,11 @@ module _ (s : DiskState) (place : ℕ) (frame : List ℕ) (w : Waits s place) wh
   s4 = synced s3
 
   pub first : LeavesOnly s s1 P
-  first = goes_on s s P (patched (place + 1) frame s.seen) (changed s (Wrote (place + 1) frame)) at_start first_image
+  first = goes_on s s P (patched (place + 1) frame s.seen) (changed_by (Wrote (place + 1) frame) s.now) at_start first_image
 
   pub first_fails : (t : DiskState) → FailsToWrite (place + 1) frame s t → LeavesOnly s t P
   first_fails t (inl same) = subst (λ (u : DiskState). LeavesOnly s u P) (sym same) at_start
-  first_fails t (inr torn) = subst (λ (u : DiskState). LeavesOnly s u P) (sym torn.2) (goes_on s s P torn.0 (changed s (Wrote (place + 1) frame)) at_start first_image)
+  first_fails t (inr torn) = subst (λ (u : DiskState). LeavesOnly s u P) (sym torn.2) (goes_on s s P torn.0 (changed_by (Wrote (place + 1) frame) s.now) at_start first_image)
 
   abbrev behind : List ℕ
   behind = drop (place + 1 + length frame) s.seen
@@ -77,7 +78,7 @@ module _ (s : DiskState) (place : ℕ) (frame : List ℕ) (w : Waits s place) wh
   staged_is = ap (λ (l : List ℕ). l ++ (frame ++ behind)) gated ∙ append_assoc w.front (gate ∷ []) (frame ++ behind)
 
   pub second : LeavesOnly s s2 P
-  second = goes_on s s1 P s1.seen (record { sure = s1.seen; since = [] }) first (λ bytes left. inl (gate, frame ++ behind, w.shut.2, left ∙ staged_is))
+  second = goes_on s s1 P s1.seen (sure_now s1.seen) first (λ bytes left. inl (gate, frame ++ behind, w.shut.2, left ∙ staged_is))
 
   -- the frame stands whole in each outcome of the second write
   opened : (bytes : List ℕ) → Torn place 1 s1.seen bytes → P bytes
@@ -97,15 +98,15 @@ module _ (s : DiskState) (place : ℕ) (frame : List ℕ) (w : Waits s place) wh
       (λ isnt. inl (byte, frame ++ behind, isnt, whole))
       (cases_eq byte 1)
 
-  second_image : (bytes : List ℕ) → MayLeave (changed s2 (Wrote place (1 ∷ []))) bytes → P bytes
+  second_image : (bytes : List ℕ) → MayLeave (changed_by (Wrote place (1 ∷ [])) s2.now) bytes → P bytes
   second_image bytes left = subst P (sym left.2) (opened left.0 left.1)
 
   pub third : LeavesOnly s s3 P
-  third = goes_on s s2 P (patched place (1 ∷ []) s2.seen) (changed s2 (Wrote place (1 ∷ []))) second second_image
+  third = goes_on s s2 P (patched place (1 ∷ []) s2.seen) (changed_by (Wrote place (1 ∷ [])) s2.now) second second_image
 
   pub third_fails : (t : DiskState) → FailsToWrite place (1 ∷ []) s2 t → LeavesOnly s t P
   third_fails t (inl same) = subst (λ (u : DiskState). LeavesOnly s u P) (sym same) second
-  third_fails t (inr torn) = subst (λ (u : DiskState). LeavesOnly s u P) (sym torn.2) (goes_on s s2 P torn.0 (changed s2 (Wrote place (1 ∷ []))) second second_image)
+  third_fails t (inr torn) = subst (λ (u : DiskState). LeavesOnly s u P) (sym torn.2) (goes_on s s2 P torn.0 (changed_by (Wrote place (1 ∷ [])) s2.now) second second_image)
 
   pub opened_is : s3.seen ≡ w.front ++ (1 ∷ (frame ++ behind))
   opened_is =
@@ -116,7 +117,7 @@ module _ (s : DiskState) (place : ℕ) (frame : List ℕ) (w : Waits s place) wh
       λ i. front i ++ (1 ∷ tail i)
 
   pub fourth : LeavesOnly s s4 P
-  fourth = goes_on s s3 P s3.seen (record { sure = s3.seen; since = [] }) third (λ bytes left. inr (behind, left ∙ opened_is))
+  fourth = goes_on s s3 P s3.seen (sure_now s3.seen) third (λ bytes left. inr (behind, left ∙ opened_is))
 
 -- where the disk tells, what a crash inside the append may leave
 abbrev pub Left : ℕ → List ℕ → Option DiskState → Option DiskState → Type 0
@@ -189,9 +190,6 @@ pub place_second : (place : ℕ) (frame : List ℕ) (o o1 o2 : Option DiskState)
 place_second place frame None o1 o2 file is1 is2 s is = absurd (cc (sym is ∙ is2 ∙ ap (λ x. option_map synced x) is1))
 place_second place frame (Some t) o1 o2 file is1 is2 s is =
     let same : Some s ≡ Some (s2 t place frame (file t refl)) = sym is ∙ is2 ∙ ap (λ x. option_map synced x) is1 in
-    let whole : s.seen ≡ take (place + 1) t.seen ++ (frame ++ drop (place + 1 + length frame) t.seen) = ap (λ (x : DiskState). x.seen) (inner same) in
+    let whole : s.seen ≡ take (place + 1) t.seen ++ (frame ++ drop (place + 1 + length frame) t.seen) = ap (λ (x : DiskState). x.seen) (some_same s (s2 t place frame (file t refl)) same) in
     let first = place_first place (Some t) file t refl in
     omega (arith, ap length whole, length-append (take (place + 1) t.seen) (frame ++ drop (place + 1 + length frame) t.seen), length-take (place + 1) t.seen, first)
-  where
-    inner : {x y : DiskState} → Some x ≡ Some y → x ≡ y
-    inner e = cc e

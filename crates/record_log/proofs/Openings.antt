@@ -4,7 +4,7 @@ use Rattle.std.specs.Prelude.{Option, Some, None, option_map, if◌then◌else�
 use Rattle.std.proofs.lemmas.Bool.{cases_eq}
 use Rattle.std.proofs.lemmas.Bool.Decides.{nat_tests}
 use Rattle.std.proofs.lemmas.List.{append-nil, drop_all}
-use Rattle.disk_core.specs.DiskModel.{Wrote, DiskState, MayLeave, LeavesOnly, FailsToWrite, Becomes, patched, changed, written, synced}
+use Rattle.disk_core.specs.DiskModel.{Wrote, DiskState, MayLeave, LeavesOnly, FailsToWrite, Becomes, patched, changed_by, sure_now, written, synced}
 use Rattle.disk_core.proofs.Moments.{started, goes_on}
 use Rattle.record_log.specs.Recovery.{has_mark, is_current, records_past, records_of}
 use Rattle.record_log.specs.Files.{IsEmpty, MaySync}
@@ -16,7 +16,7 @@ sync_leaves None o' stays told = told
 sync_leaves (Some s) o' stays told =
     let at_start : LeavesOnly s s (MayLeave s.now) = started s (MayLeave s.now) (λ bytes left. left) in
     let after : LeavesOnly s (synced s) (MayLeave s.now) =
-    goes_on s s (MayLeave s.now) s.seen (record { sure = s.seen; since = [] }) at_start (λ bytes left. subst (MayLeave s.now) (sym left) (stays s refl)) in
+    goes_on s s (MayLeave s.now) s.seen (sure_now s.seen) at_start (λ bytes left. subst (MayLeave s.now) (sym left) (stays s refl)) in
     let P : DiskState → Type 0 = λ t. LeavesOnly s t (MayLeave s.now) in
     (told.0, told.1, ⊎_elim (λ same. subst P (sym same) at_start) (λ is. subst P (sym is) after) told.2)
 
@@ -27,17 +27,17 @@ module _ (s : DiskState) (piece : List ℕ) (empty : IsEmpty s) (size : length p
   none_yet : LeavesOnly s s Short
   none_yet = started s Short (λ bytes left. omega (arith, ap length (subst (λ m. MayLeave m bytes) empty.sure left ∙ empty.seen)))
 
-  made_image : (bytes : List ℕ) → MayLeave (changed s (Wrote 0 piece)) bytes → Short bytes
+  made_image : (bytes : List ℕ) → MayLeave (changed_by (Wrote 0 piece) s.now) bytes → Short bytes
   made_image bytes left =
-      let torn = subst (λ m. MayLeave (record { sure = m.sure; since = m.since ++ Wrote 0 piece ∷ [] }) bytes) empty.sure left in
+      let torn = subst (λ m. MayLeave (changed_by (Wrote 0 piece) m) bytes) empty.sure left in
       omega (arith, ap length torn.2, torn.1.no_longer, ap length empty.seen, size)
 
   wrote_one : LeavesOnly s (written 0 piece s) Short
-  wrote_one = goes_on s s Short (patched 0 piece s.seen) (changed s (Wrote 0 piece)) none_yet made_image
+  wrote_one = goes_on s s Short (patched 0 piece s.seen) (changed_by (Wrote 0 piece) s.now) none_yet made_image
 
   fails_one : (t : DiskState) → FailsToWrite 0 piece s t → LeavesOnly s t Short
   fails_one t (inl same) = subst (λ (u : DiskState). LeavesOnly s u Short) (sym same) none_yet
-  fails_one t (inr torn) = subst (λ (u : DiskState). LeavesOnly s u Short) (sym torn.2) (goes_on s s Short torn.0 (changed s (Wrote 0 piece)) none_yet made_image)
+  fails_one t (inr torn) = subst (λ (u : DiskState). LeavesOnly s u Short) (sym torn.2) (goes_on s s Short torn.0 (changed_by (Wrote 0 piece) s.now) none_yet made_image)
 
   written_is : (written 0 piece s).seen ≡ piece
   written_is =
@@ -45,7 +45,7 @@ module _ (s : DiskState) (piece : List ℕ) (empty : IsEmpty s) (size : length p
       ap (λ (l : List ℕ). piece ++ l) none ∙ append-nil piece
 
   synced_one : LeavesOnly s (synced (written 0 piece s)) Short
-  synced_one = goes_on s (written 0 piece s) Short (written 0 piece s).seen (record { sure = (written 0 piece s).seen; since = [] }) wrote_one (λ bytes left. omega (arith, ap length (left ∙ written_is), size))
+  synced_one = goes_on s (written 0 piece s) Short (written 0 piece s).seen (sure_now (written 0 piece s).seen) wrote_one (λ bytes left. omega (arith, ap length (left ∙ written_is), size))
 
 abbrev pub ShortLeft : Option DiskState → Option DiskState → Type 0
 ShortLeft old new = Becomes (λ s t. LeavesOnly s t (λ bytes. length bytes ≤ 18)) old new
