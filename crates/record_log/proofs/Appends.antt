@@ -133,46 +133,38 @@ pub after_failed_write : (place : ℕ) (frame : List ℕ) (o o1 : Option DiskSta
 after_failed_write place frame None o1 file failed = failed
 after_failed_write place frame (Some s) o1 file failed = shown s failed.0 place frame (file s refl) o1 failed.1 (first_fails s place frame (file s refl) failed.0 failed.2)
 
-pub after_write : (place : ℕ) (frame : List ℕ) (o o1 : Option DiskState) → File place o → o1 ≡ option_map (written (place + 1) frame) o → Left place frame o o1
-after_write place frame None o1 file is = is
-after_write place frame (Some s) o1 file is = shown s (s1 s place frame (file s refl)) place frame (file s refl) o1 is (first s place frame (file s refl))
+-- the frame stands behind the gate, and is sure
+abbrev pub Staged : ℕ → List ℕ → Option DiskState → Option DiskState → Type 0
+Staged place frame o o2 = o2 ≡ option_map (λ x. synced (written (place + 1) frame x)) o
 
-pub after_failed_gate : (place : ℕ) (frame : List ℕ) (o o1 o2 o3 : Option DiskState) → File place o → o1 ≡ option_map (written (place + 1) frame) o → o2 ≡ option_map synced o1
-    → Becomes (FailsToWrite place (1 ∷ [])) o2 o3 → Left place frame o o3
-after_failed_gate place frame None o1 o2 o3 file is1 is2 failed =
-    let none : o2 ≡ None = is2 ∙ ap (λ x. option_map synced x) is1 in
-    let P : Option DiskState → Type 0 = λ x. Becomes (FailsToWrite place (1 ∷ [])) x o3 in
-    subst P none failed
-after_failed_gate place frame (Some s) o1 o2 o3 file is1 is2 failed =
+-- and the gate is open
+abbrev pub Opened : ℕ → Option DiskState → Option DiskState → Type 0
+Opened place o2 o4 = o4 ≡ option_map (λ x. synced (written place (1 ∷ []) x)) o2
+
+pub after_failed_gate : (place : ℕ) (frame : List ℕ) (o o2 o3 : Option DiskState) → File place o → Staged place frame o o2 → Becomes (FailsToWrite place (1 ∷ [])) o2 o3 → Left place frame o o3
+after_failed_gate place frame None o2 o3 file staged failed = let P : Option DiskState → Type 0 = λ x. Becomes (FailsToWrite place (1 ∷ [])) x o3 in subst P staged failed
+after_failed_gate place frame (Some s) o2 o3 file staged failed =
     let w = file s refl in
-    let some : o2 ≡ Some (s2 s place frame w) = is2 ∙ ap (λ x. option_map synced x) is1 in
     let P : Option DiskState → Type 0 = λ x. Becomes (FailsToWrite place (1 ∷ [])) x o3 in
-    let told = subst P some failed in
+    let told = subst P staged failed in
     shown s told.0 place frame w o3 told.1 (third_fails s place frame w told.0 told.2)
 
-pub after_gate : (place : ℕ) (frame : List ℕ) (o o1 o2 o3 : Option DiskState) → File place o → o1 ≡ option_map (written (place + 1) frame) o → o2 ≡ option_map synced o1
-    → o3 ≡ option_map (written place (1 ∷ [])) o2 → Left place frame o o3
-after_gate place frame None o1 o2 o3 file is1 is2 is3 = is3 ∙ ap (λ x. option_map (written place (1 ∷ [])) x) (is2 ∙ ap (λ x. option_map synced x) is1)
-after_gate place frame (Some s) o1 o2 o3 file is1 is2 is3 =
-    let w = file s refl in
-    shown s (s3 s place frame w) place frame w o3 (is3 ∙ ap (λ x. option_map (written place (1 ∷ [])) x) (is2 ∙ ap (λ x. option_map synced x) is1)) (third s place frame w)
+opened_option : (place : ℕ) (frame : List ℕ) (o o2 o4 : Option DiskState) → Staged place frame o o2 → Opened place o2 o4
+    → o4 ≡ option_map (λ x. synced (written place (1 ∷ []) x)) (option_map (λ x. synced (written (place + 1) frame x)) o)
+opened_option place frame o o2 o4 staged opened = opened ∙ ap (λ x. option_map (λ y. synced (written place (1 ∷ []) y)) x) staged
 
-pub after_all : (place : ℕ) (frame : List ℕ) (o o1 o2 o3 o4 : Option DiskState) → File place o → o1 ≡ option_map (written (place + 1) frame) o → o2 ≡ option_map synced o1
-    → o3 ≡ option_map (written place (1 ∷ [])) o2 → o4 ≡ option_map synced o3 → Left place frame o o4
-after_all place frame None o1 o2 o3 o4 file is1 is2 is3 is4 =
-    is4 ∙ ap (λ x. option_map synced x) (is3 ∙ ap (λ x. option_map (written place (1 ∷ [])) x) (is2 ∙ ap (λ x. option_map synced x) is1))
-after_all place frame (Some s) o1 o2 o3 o4 file is1 is2 is3 is4 =
+pub after_all : (place : ℕ) (frame : List ℕ) (o o2 o4 : Option DiskState) → File place o → Staged place frame o o2 → Opened place o2 o4 → Left place frame o o4
+after_all place frame None o2 o4 file staged opened = opened_option place frame None o2 o4 staged opened
+after_all place frame (Some s) o2 o4 file staged opened =
     let w = file s refl in
-    shown s (s4 s place frame w) place frame w o4 (is4 ∙ ap (λ x. option_map synced x) (is3 ∙ ap (λ x. option_map (written place (1 ∷ [])) x) (is2 ∙ ap (λ x. option_map synced x) is1))) (fourth s place frame w)
+    shown s (s4 s place frame w) place frame w o4 (opened_option place frame (Some s) o2 o4 staged opened) (fourth s place frame w)
 
-pub all_done : (place : ℕ) (frame : List ℕ) (o o1 o2 o3 o4 : Option DiskState) → File place o → o1 ≡ option_map (written (place + 1) frame) o → o2 ≡ option_map synced o1
-    → o3 ≡ option_map (written place (1 ∷ [])) o2 → o4 ≡ option_map synced o3 → Becomes (λ s t. IsSure t × IsOpened (take place s.seen) frame t.seen) o o4
-all_done place frame None o1 o2 o3 o4 file is1 is2 is3 is4 =
-    is4 ∙ ap (λ x. option_map synced x) (is3 ∙ ap (λ x. option_map (written place (1 ∷ [])) x) (is2 ∙ ap (λ x. option_map synced x) is1))
-all_done place frame (Some s) o1 o2 o3 o4 file is1 is2 is3 is4 =
+pub all_done : (place : ℕ) (frame : List ℕ) (o o2 o4 : Option DiskState) → File place o → Staged place frame o o2 → Opened place o2 o4 → Becomes (λ s t. IsSure t × IsOpened (take place s.seen) frame t.seen) o o4
+all_done place frame None o2 o4 file staged opened = opened_option place frame None o2 o4 staged opened
+all_done place frame (Some s) o2 o4 file staged opened =
     let w = file s refl in (
       s4 s place frame w,
-      is4 ∙ ap (λ x. option_map synced x) (is3 ∙ ap (λ x. option_map (written place (1 ∷ [])) x) (is2 ∙ ap (λ x. option_map synced x) is1)),
+      opened_option place frame (Some s) o2 o4 staged opened,
       (
         refl,
         (
@@ -186,10 +178,10 @@ all_done place frame (Some s) o1 o2 o3 o4 file is1 is2 is3 is4 =
 pub place_first : (place : ℕ) (o : Option DiskState) → File place o → (s : DiskState) → o ≡ Some s → place + 1 ≤ length s.seen
 place_first place o file s is = let w = file s is in omega (arith, ap length w.shut.3, length-append w.front (w.shut.0 ∷ w.shut.1), w.length_front)
 
-pub place_second : (place : ℕ) (frame : List ℕ) (o o1 o2 : Option DiskState) → File place o → o1 ≡ option_map (written (place + 1) frame) o → o2 ≡ option_map synced o1 → (s : DiskState) → o2 ≡ Some s → place ≤ length s.seen
-place_second place frame None o1 o2 file is1 is2 s is = absurd (cc (sym is ∙ is2 ∙ ap (λ x. option_map synced x) is1))
-place_second place frame (Some t) o1 o2 file is1 is2 s is =
-    let same : Some s ≡ Some (s2 t place frame (file t refl)) = sym is ∙ is2 ∙ ap (λ x. option_map synced x) is1 in
-    let whole : s.seen ≡ take (place + 1) t.seen ++ (frame ++ drop (place + 1 + length frame) t.seen) = ap (λ (x : DiskState). x.seen) (some_same s (s2 t place frame (file t refl)) same) in
+pub place_second : (place : ℕ) (frame : List ℕ) (o o2 : Option DiskState) → File place o → Staged place frame o o2 → (s : DiskState) → o2 ≡ Some s → place ≤ length s.seen
+place_second place frame None o2 file staged s is = absurd (cc (sym is ∙ staged))
+place_second place frame (Some t) o2 file staged s is =
+    let same : s ≡ s2 t place frame (file t refl) = some_same s (s2 t place frame (file t refl)) (sym is ∙ staged) in
+    let whole : s.seen ≡ take (place + 1) t.seen ++ (frame ++ drop (place + 1 + length frame) t.seen) = ap (λ (x : DiskState). x.seen) same in
     let first = place_first place (Some t) file t refl in
     omega (arith, ap length whole, length-append (take (place + 1) t.seen) (frame ++ drop (place + 1 + length frame) t.seen), length-take (place + 1) t.seen, first)

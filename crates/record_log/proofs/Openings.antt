@@ -63,14 +63,10 @@ failed_made piece (Some s) o1 o2 size empty same failed =
     let told = subst (λ x. Becomes (FailsToWrite 0 piece) x o2) same failed in
     (told.0, told.1, fails_one s piece (empty s refl) size told.0 told.2)
 
-pub wrote_made : (piece : List ℕ) (o o1 o2 : Option DiskState) → length piece ≡ 18 → Empty o → o1 ≡ o → o2 ≡ option_map (written 0 piece) o1 → ShortLeft o o2
-wrote_made piece None o1 o2 size empty same is = is ∙ ap (λ x. option_map (written 0 piece) x) same
-wrote_made piece (Some s) o1 o2 size empty same is = (written 0 piece s, is ∙ ap (λ x. option_map (written 0 piece) x) same, wrote_one s piece (empty s refl) size)
-
-pub synced_made : (piece : List ℕ) (o o1 o2 o3 : Option DiskState) → length piece ≡ 18 → Empty o → o1 ≡ o → o2 ≡ option_map (written 0 piece) o1 → o3 ≡ option_map synced o2 → ShortLeft o o3
-synced_made piece None o1 o2 o3 size empty same is sure = sure ∙ ap (λ x. option_map synced x) (is ∙ ap (λ x. option_map (written 0 piece) x) same)
-synced_made piece (Some s) o1 o2 o3 size empty same is sure =
-    (synced (written 0 piece s), sure ∙ ap (λ x. option_map synced x) (is ∙ ap (λ x. option_map (written 0 piece) x) same), synced_one s piece (empty s refl) size)
+pub sure_made : (piece : List ℕ) (o o1 o2 : Option DiskState) → length piece ≡ 18 → Empty o → o1 ≡ o → o2 ≡ option_map (λ x. synced (written 0 piece x)) o1 → ShortLeft o o2
+sure_made piece None o1 o2 size empty same is = is ∙ ap (λ x. option_map (λ y. synced (written 0 piece y)) x) same
+sure_made piece (Some s) o1 o2 size empty same is =
+    (synced (written 0 piece s), is ∙ ap (λ x. option_map (λ y. synced (written 0 piece y)) x) same, synced_one s piece (empty s refl) size)
 
 -- a file as short as its head and one gate has no record
 pub short_past : (n : ℕ) (bytes : List ℕ) → length bytes ≤ n + 1 → (records_past n bytes ≡ Some []) ⊎ (records_past n bytes ≡ None)
