@@ -7,4 +7,5 @@ pub mod Memory
 pub mod MomentCode
 pub mod Recents
 pub mod Stays
+pub mod Steps
 pub mod Trial

@@ -1,5 +1,5 @@
 -- What is planned for the changing calls of a disk, and what has come of it.
-use Rattle.std.specs.Prelude.{◌≡◌, ℕ, ◌+◌, ◌-◌, ◌^◌, ◌==◌, min, Bool, not, if◌then◌else◌, filter, map, List, [], ◌∷◌, Option, Some, None, is_none, is_some, is_ok, option_map, Result}
+use Rattle.std.specs.Prelude.{◌≡◌, ℕ, ◌+◌, ◌-◌, ◌^◌, ◌==◌, min, Bool, not, if◌then◌else◌, filter, map, List, [], ◌∷◌, Option, Some, None, is_none, is_some, is_ok, Result}
 use Rattle.disk_core.specs.DiskModel.{DiskState}
 use Rattle.disk_core.specs.declared.image.Image.{Image}
 use Rattle.disk_core.specs.declared.plan.Mishap.{Mishap}
@@ -59,12 +59,6 @@ abbrev pub befallen : Option Mishap → (DiskState → DiskState) → (DiskState
 befallen None done torn s = done s
 befallen (Some Fail) done torn s = s
 befallen (Some (Stop image)) done torn s = torn s
-
--- A changing call went as it was planned, where the disk tells of a plan.
-pub record AsPlanned {E : Type 0} (done torn : DiskState → DiskState) (old new : Option DiskState) (trial trial' : Option Trial) (result : Result Unit E) : Type 0 where
-  pub spent : trial' ≡ option_map passed trial
-  pub state : (t : Trial) → trial ≡ Some t → new ≡ option_map (befallen (next_mishap t) done torn) old
-  pub answer : (t : Trial) → trial ≡ Some t → is_ok result ≡ is_none (next_mishap t)
 
 -- A call that changes nothing fails exactly on a disk that has stopped, where the disk tells of a plan.
 pub record UnlessStopped {T E : Type 0} (trial trial' : Option Trial) (result : Result T E) : Type 0 where

@@ -1,7 +1,8 @@
 //! The trait `Disk` and its faults.
 ghost use Rattle.std.specs.Prelude.{◌≡◌, ℕ, ◌+◌, ◌≤◌, ◌<◌, Option, Some, option_map, length, is_some, OnOk, IfOk, OnErr};
 ghost use Rattle.disk_core.specs.Counts.{HasCause};
-ghost use Rattle.disk_core.specs.Trial.{AsPlanned, Trial, UnlessStopped};
+ghost use Rattle.disk_core.specs.Steps.{AsPlanned, Cuts, Syncs, Writes};
+ghost use Rattle.disk_core.specs.Trial.{Trial, UnlessStopped};
 ghost use Rattle.disk_core.specs.DiskModel.{DiskState, written, cut_to, synced, FailsToWrite, FailsToCut, Becomes, MayLeave, ReadsAt};
 
 use std::alloc::{AllocError, AllocFailed};
@@ -73,7 +74,7 @@ pub trait Disk {
         ensures written { OnOk result (state self.new ≡ option_map (written at bytes.now) (state self.old)) }
         ensures torn { OnErr result (Becomes (FailsToWrite at bytes.now) (state self.old) (state self.new)) }
         ensures room { (room self.old ≤ room self.new + length bytes.now) × (calls self.old ≤ calls self.new + 1) }
-        ensures trial { AsPlanned (written at bytes.now) (written at bytes.now) (state self.old) (state self.new) (trial self.old) (trial self.new) result }
+        ensures trial { AsPlanned (Writes at bytes.now) (state self.old) (state self.new) (trial self.old) (trial self.new) result }
         ensures cause { HasCause (faults self.old) (faults self.new) result };
 
     /// Cuts the file to a length. Until a sync a crash may leave a longer front of it.
@@ -83,7 +84,7 @@ pub trait Disk {
         ensures cut { OnOk result (state self.new ≡ option_map (cut_to len) (state self.old)) }
         ensures torn { OnErr result (Becomes (FailsToCut len) (state self.old) (state self.new)) }
         ensures room { (room self.old ≤ room self.new) × (calls self.old ≤ calls self.new + 1) }
-        ensures trial { AsPlanned (cut_to len) (cut_to len) (state self.old) (state self.new) (trial self.old) (trial self.new) result }
+        ensures trial { AsPlanned (Cuts len) (state self.old) (state self.new) (trial self.old) (trial self.new) result }
         ensures cause { HasCause (faults self.old) (faults self.new) result };
 
     /// Makes sure what was written: after it a crash leaves what a read gives.
@@ -92,7 +93,7 @@ pub trait Disk {
         ensures sure { OnOk result (state self.new ≡ option_map synced (state self.old)) }
         ensures unchanged { OnErr result (state self.new ≡ state self.old) }
         ensures room { (room self.old ≤ room self.new) × (calls self.old ≤ calls self.new + 1) }
-        ensures trial { AsPlanned synced (λ s. s) (state self.old) (state self.new) (trial self.old) (trial self.new) result }
+        ensures trial { AsPlanned Syncs (state self.old) (state self.new) (trial self.old) (trial self.new) result }
         ensures cause { HasCause (faults self.old) (faults self.new) result };
 
     /// Makes room for the next six changing calls, which together write at most so many bytes.

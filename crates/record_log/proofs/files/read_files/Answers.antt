@@ -1,7 +1,5 @@
-use Rattle.std.proofs.Common.{◌≡◌, List, ℕ, sym, ◌∙◌, ap}
-use Rattle.std.specs.Prelude.{IsErrOf, Err}
+use Rattle.std.proofs.Common.{◌≡◌, List, ℕ, sym, ◌∙◌}
 use Rattle.record_log.specs.RecordLists.{list_of}
-use Rattle.record_log.specs.declared.fault.LogFault.{LogFault}
 use Rattle.record_log.specs.declared.fault.LogFault.TheVariants.{NotALog}
 use Rattle.record_log.specs.declared.files.Found.{Found}
 use Rattle.record_log.proofs.Told.{err_is, err_of}

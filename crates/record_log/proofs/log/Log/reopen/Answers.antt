@@ -1,5 +1,5 @@
-use Rattle.std.proofs.Common.{◌≡◌, List, ℕ, ◌∙◌, ap, sym}
-use Rattle.std.specs.Prelude.{Some, Err, IsErrOf}
+use Rattle.std.proofs.Common.{List, ℕ, ◌∙◌, ap, sym}
+use Rattle.std.specs.Prelude.{Some, Err}
 use Rattle.record_log.specs.RecordLists.{list_of}
 use Rattle.record_log.specs.declared.fault.LogFault.{LogFault}
 use Rattle.record_log.specs.declared.fault.LogFault.TheVariants.{NotALog}
