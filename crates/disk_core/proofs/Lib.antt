@@ -1,3 +1,5 @@
+pub mod Changes
+pub mod Courses
 pub mod Crashes
 pub mod Moments
-pub mod Replays
+pub mod PlanExamples

@@ -1,7 +1,7 @@
 -- How a run of disk calls goes on, and what a crash may leave on the way.
 use Rattle.std.proofs.Common.{◌≡◌, ◌⊎◌, inl, inr, ⊎_elim, ℕ, List, [], ◌∷◌, ◌++◌, length, drop, refl, sym, ◌∙◌, ap, subst, arith, append_assoc}
 use Rattle.std.proofs.lemmas.List.{append-nil, drop_at, drop_all}
-use Rattle.disk_core.specs.DiskModel.{Moment, DiskState, MayLeave, LeftAtSome, LeftSince, LeavesOnly, at_moment}
+use Rattle.disk_core.specs.DiskModel.{Moment, DiskState, MayLeave, LeftAtSome, LeavesOnly, at_moment}
 
 some_split : (xs ys : List Moment) (bytes : List ℕ) → LeftAtSome (xs ++ ys) bytes → LeftAtSome xs bytes ⊎ LeftAtSome ys bytes
 some_split [] ys bytes some = inr some

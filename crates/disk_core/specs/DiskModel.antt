@@ -1,5 +1,5 @@
 -- What a disk holds, what its calls make of it, and what a crash may leave.
-use Rattle.std.specs.Prelude.{◌≡◌, ◌⊎◌, ℕ, ◌+◌, ◌-◌, ◌≤◌, min, max, List, [], ◌∷◌, ◌++◌, length, take, drop, Option, Some, None, option_map}
+use Rattle.std.specs.Prelude.{◌≡◌, ◌⊎◌, ℕ, ◌+◌, ◌-◌, ◌≤◌, min, max, List, [], ◌∷◌, ◌++◌, length, take, drop, Option, Some, None}
 
 -- A change of the file that no sync has made sure yet: bytes written at a place, or a cut to a length.
 pub data Change : Type 0 where
@@ -11,6 +11,14 @@ pub record Moment : Type 0 where
   pub sure : List ℕ
   pub since : List Change
 
+-- A moment at which these bytes are sure, and nothing else stands.
+abbrev pub sure_now : List ℕ → Moment
+sure_now bytes = record { sure = bytes; since = [] }
+
+-- A moment with one change more that isn't sure.
+abbrev pub changed_by : Change → Moment → Moment
+changed_by change m = record { sure = m.sure; since = m.since ++ change ∷ [] }
+
 -- A disk: the bytes that a read gives, the present moment, and the moments that the clock has counted, the oldest first.
 pub record DiskState : Type 0 where
   pub seen : List ℕ
@@ -19,11 +27,11 @@ pub record DiskState : Type 0 where
 
 -- A disk at its start: these bytes, all of them sure.
 abbrev pub start : List ℕ → DiskState
-start bytes = record { seen = bytes; now = record { sure = bytes; since = [] }; moments = [] }
+start bytes = record { seen = bytes; now = sure_now bytes; moments = [] }
 
 -- All that a read gives is sure.
 abbrev pub IsSure : DiskState → Type 0
-IsSure s = s.now ≡ record { sure = s.seen; since = [] }
+IsSure s = s.now ≡ sure_now s.seen
 
 -- The file after these bytes are written over it from a place on.
 abbrev pub patched : ℕ → List ℕ → List ℕ → List ℕ
@@ -65,25 +73,21 @@ LeftAtSome (m ∷ moments) bytes = MayLeave m bytes ⊎ LeftAtSome moments bytes
 abbrev pub at_moment : DiskState → List ℕ → Moment → DiskState
 at_moment s seen m = record { seen = seen; now = m; moments = s.moments ++ m ∷ [] }
 
--- The present moment with one change more that isn't sure.
-abbrev pub changed : DiskState → Change → Moment
-changed s change = record { sure = s.now.sure; since = s.now.since ++ change ∷ [] }
-
 -- After a write that succeeded.
 abbrev pub written : ℕ → List ℕ → DiskState → DiskState
-written at piece s = at_moment s (patched at piece s.seen) (changed s (Wrote at piece))
+written at piece s = at_moment s (patched at piece s.seen) (changed_by (Wrote at piece) s.now)
 
 -- After a cut that succeeded.
 abbrev pub cut_to : ℕ → DiskState → DiskState
-cut_to n s = at_moment s (take n s.seen) (changed s (CutTo n))
+cut_to n s = at_moment s (take n s.seen) (changed_by (CutTo n) s.now)
 
 -- After a sync that succeeded: a crash leaves what a read gives.
 abbrev pub synced : DiskState → DiskState
-synced s = at_moment s s.seen (record { sure = s.seen; since = [] })
+synced s = at_moment s s.seen (sure_now s.seen)
 
 -- A write that failed did nothing, or may have left any bytes in its range and past the old end.
 abbrev pub FailsToWrite : ℕ → List ℕ → DiskState → DiskState → Type 0
-FailsToWrite at piece s t = (t ≡ s) ⊎ ((seen : List ℕ) × Torn at (length piece) s.seen seen × (t ≡ at_moment s seen (changed s (Wrote at piece))))
+FailsToWrite at piece s t = (t ≡ s) ⊎ ((seen : List ℕ) × Torn at (length piece) s.seen seen × (t ≡ at_moment s seen (changed_by (Wrote at piece) s.now)))
 
 -- A cut that failed left the old or the new length.
 abbrev pub FailsToCut : ℕ → DiskState → DiskState → Type 0

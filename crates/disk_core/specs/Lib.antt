@@ -1,6 +1,11 @@
 pub mod Counts
 pub mod DiskModel
+pub mod FileDisks
 pub mod History
 pub mod Images
 pub mod Memory
+pub mod MomentCode
+pub mod Recents
 pub mod Stays
+pub mod Steps
+pub mod Trial

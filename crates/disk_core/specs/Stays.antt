@@ -1,13 +1,14 @@
--- What a read gives is one of the contents that a crash may leave.
-use Rattle.std.specs.Prelude.{◌≡◌, ◌≤◌, ℕ, ◌+◌, ◌-◌, min, List, [], ◌∷◌, ◌++◌, length, take, drop, refl}
+-- What a stop with an image leaves is one of the contents that a crash may leave, and so is what a read gives.
+use Rattle.std.specs.Prelude.{◌≡◌, ◌≤◌, ℕ, ◌+◌, ◌-◌, ◌/◌, min, List, [], ◌∷◌, ◌++◌, length, take, drop, replicate, refl}
 use Rattle.std.proofs.Common.{⊎_elim, sym, ◌∙◌, ap, subst, arith, length-append, length-drop, length-take}
 use Rattle.std.proofs.lemmas.Bool.{cases_lt}
-use Rattle.std.proofs.lemmas.List.{take_at, drop_at, drop_all, drop-drop, take_min}
-use Rattle.disk_core.specs.DiskModel.{Change, Wrote, CutTo, DiskState, start, patched, written, cut_to, synced, Torn, Cut, Tears, TearsAll, MayLeave}
-use Rattle.disk_core.specs.declared.memory.Call.{Call}
-use Rattle.disk_core.specs.declared.memory.Call.TheVariants.{Write, Cut as CutCall, Sync}
-use Rattle.disk_core.specs.History.{called}
+use Rattle.std.proofs.lemmas.List.{take_at, drop_at, drop_all, drop-drop, take_all, take_min, length-replicate}
+use Rattle.disk_core.specs.DiskModel.{Change, Wrote, CutTo, Moment, patched, Torn, Cut, TearsAll, MayLeave}
+use Rattle.disk_core.specs.declared.image.Image.{Image as Choice}
+use Rattle.disk_core.specs.declared.image.Image.TheVariants.{Keep, Drop, Half, Junk}
+use Rattle.disk_core.specs.Images.{imaged, image_step, image_steps, image_of}
 use Rattle.disk_core.specs.Memory.{state_of}
+use Rattle.disk_core.specs.Recents.{moment_of}
 use Rattle.disk_core.specs.declared.memory.MemDisk.{MemDisk}
 
 drop_past : (xs ys : List ℕ) (m n : ℕ) → m ≡ length xs + n → drop m (xs ++ ys) ≡ drop n ys
@@ -51,20 +52,30 @@ torn_patch at n piece old short =
 pub cut_front : (n : ℕ) (bytes : List ℕ) → Cut n bytes (take n bytes)
 cut_front n bytes = record { front = ap (λ (k : ℕ). take k bytes) (length-take n bytes) ∙ take_min n bytes; no_shorter = omega (arith, length-take n bytes) }
 
--- one change more
-pub tears_more : (changes : List Change) (change : Change) (sure old new : List ℕ) → TearsAll changes sure old → Tears change old new → TearsAll (changes ++ change ∷ []) sure new
-tears_more [] change sure old new so_far last = (new, subst (λ x. Tears change x new) so_far last, refl)
-tears_more (first ∷ changes) change sure old new so_far last = (so_far.0, so_far.1, tears_more changes change so_far.0 old new so_far.2 last)
+length_imaged : (image : Choice) (piece old : List ℕ) → length (imaged image piece old) ≤ length piece
+length_imaged Keep piece old = omega arith
+length_imaged Drop piece old = omega arith
+length_imaged Half piece old =
+    let h = length piece / 2 in
+    let zeros : List ℕ = replicate (length piece - length old) 0 in
+    let size_zeros : length zeros ≡ length piece - length old = length-replicate (length piece - length old) (let z : ℕ = 0 in z) in
+    let under : List ℕ = take (length piece) old ++ zeros in
+    omega (arith, length-append (take h piece) (drop h under), length-take h piece, length-drop h under, length-append (take (length piece) old) zeros, length-take (length piece) old, size_zeros)
+length_imaged Junk piece old = let full : List ℕ = replicate (length piece) 255 in let size : length full ≡ length piece = length-replicate (length piece) (let z : ℕ = 255 in z) in omega (arith, size)
 
--- what is seen after these calls may stay, where it may before
-pub stays : (calls : List Call) (pieces : List ℕ) (s : DiskState) → MayLeave s.now s.seen → MayLeave (called calls pieces s).now (called calls pieces s).seen
-stays [] pieces s before = before
-stays (Write at len ∷ calls) pieces s before =
-    let piece = take len pieces in
-    stays calls (drop len pieces) (written at piece s) (tears_more s.now.since (Wrote at piece) s.now.sure s.seen (patched at piece s.seen) before (torn_patch at (length piece) piece s.seen (omega arith)))
-stays (CutCall len ∷ calls) pieces s before =
-    stays calls pieces (cut_to len s) (tears_more s.now.since (CutTo len) s.now.sure s.seen (take len s.seen) before (cut_front len s.seen))
-stays (Sync ∷ calls) pieces s before = stays calls pieces (synced s) refl
+is_image : (image : Choice) (changes : List Change) (bytes : List ℕ) → TearsAll changes bytes (image_steps image changes bytes)
+is_image image [] bytes = refl
+is_image image (Wrote at piece ∷ changes) bytes =
+    (image_step image (Wrote at piece) bytes, torn_patch at (length piece) (imaged image piece (drop at bytes)) bytes (length_imaged image piece (drop at bytes)), is_image image changes (image_step image (Wrote at piece) bytes))
+is_image Keep (CutTo n ∷ changes) bytes = (take n bytes, cut_front n bytes, is_image Keep changes (take n bytes))
+is_image Drop (CutTo n ∷ changes) bytes = (bytes, record { front = take_all (length bytes) bytes (omega arith); no_shorter = omega arith }, is_image Drop changes bytes)
+is_image Half (CutTo n ∷ changes) bytes = (take n bytes, cut_front n bytes, is_image Half changes (take n bytes))
+is_image Junk (CutTo n ∷ changes) bytes = (take n bytes, cut_front n bytes, is_image Junk changes (take n bytes))
 
+-- a stop's image is one of those that a crash may leave
+pub stop_is_crash : (image : Choice) (m : Moment) → MayLeave m (image_of image m)
+stop_is_crash image m = is_image image m.since m.sure
+
+-- what is read of a disk in memory is the image that keeps all
 pub memory_stays : (d : MemDisk) → MayLeave (state_of d).now (state_of d).seen
-memory_stays d = stays d.calls.items d.pieces.items (start d.first.items) refl
+memory_stays d = subst (MayLeave (state_of d).now) (sym d.same) (stop_is_crash Keep (moment_of d.recent))

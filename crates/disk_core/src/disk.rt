@@ -1,6 +1,8 @@
 //! The trait `Disk` and its faults.
 ghost use Rattle.std.specs.Prelude.{◌≡◌, ℕ, ◌+◌, ◌≤◌, ◌<◌, Option, Some, option_map, length, is_some, OnOk, IfOk, OnErr};
 ghost use Rattle.disk_core.specs.Counts.{HasCause};
+ghost use Rattle.disk_core.specs.Steps.{AsPlanned, Cuts, Syncs, Writes};
+ghost use Rattle.disk_core.specs.Trial.{Trial, UnlessStopped};
 ghost use Rattle.disk_core.specs.DiskModel.{DiskState, written, cut_to, synced, FailsToWrite, FailsToCut, Becomes, MayLeave, ReadsAt};
 
 use std::alloc::{AllocError, AllocFailed};
@@ -35,6 +37,9 @@ pub trait Disk {
     /// What the disk holds and a crash may leave, where it tells. A real file doesn't.
     ghost state: { Self → Option DiskState };
 
+    /// What is planned for its changing calls, and what has come of it, where it tells. A disk in memory does, a real file doesn't.
+    ghost trial: { Self → Option Trial };
+
     /// How often a call has failed.
     ghost faults: { Self → ℕ };
 
@@ -49,6 +54,7 @@ pub trait Disk {
         ensures told { (s : DiskState) → state self.old ≡ Some s → IfOk result (λ n. n ≡ length s.seen) }
         ensures state { state self.new ≡ state self.old }
         ensures room { (room self.new ≡ room self.old) × (calls self.new ≡ calls self.old) }
+        ensures trial { UnlessStopped (trial self.old) (trial self.new) result }
         ensures cause { HasCause (faults self.old) (faults self.new) result };
 
     /// Reads from a place on, and answers how many bytes it read: fewer than there is room for only at the end.
@@ -57,6 +63,7 @@ pub trait Disk {
         ensures told { (s : DiskState) → state self.old ≡ Some s → IfOk result (λ n. ReadsAt s.seen at n into.old into.new) }
         ensures state { state self.new ≡ state self.old }
         ensures room { (room self.new ≡ room self.old) × (calls self.new ≡ calls self.old) }
+        ensures trial { UnlessStopped (trial self.old) (trial self.new) result }
         ensures cause { HasCause (faults self.old) (faults self.new) result };
 
     /// Writes over what stands from a place on, and past the end. Until a sync a crash may leave any bytes there.
@@ -67,6 +74,7 @@ pub trait Disk {
         ensures written { OnOk result (state self.new ≡ option_map (written at bytes.now) (state self.old)) }
         ensures torn { OnErr result (Becomes (FailsToWrite at bytes.now) (state self.old) (state self.new)) }
         ensures room { (room self.old ≤ room self.new + length bytes.now) × (calls self.old ≤ calls self.new + 1) }
+        ensures trial { AsPlanned (Writes at bytes.now) (state self.old) (state self.new) (trial self.old) (trial self.new) result }
         ensures cause { HasCause (faults self.old) (faults self.new) result };
 
     /// Cuts the file to a length. Until a sync a crash may leave a longer front of it.
@@ -76,6 +84,7 @@ pub trait Disk {
         ensures cut { OnOk result (state self.new ≡ option_map (cut_to len) (state self.old)) }
         ensures torn { OnErr result (Becomes (FailsToCut len) (state self.old) (state self.new)) }
         ensures room { (room self.old ≤ room self.new) × (calls self.old ≤ calls self.new + 1) }
+        ensures trial { AsPlanned (Cuts len) (state self.old) (state self.new) (trial self.old) (trial self.new) result }
         ensures cause { HasCause (faults self.old) (faults self.new) result };
 
     /// Makes sure what was written: after it a crash leaves what a read gives.
@@ -84,6 +93,7 @@ pub trait Disk {
         ensures sure { OnOk result (state self.new ≡ option_map synced (state self.old)) }
         ensures unchanged { OnErr result (state self.new ≡ state self.old) }
         ensures room { (room self.old ≤ room self.new) × (calls self.old ≤ calls self.new + 1) }
+        ensures trial { AsPlanned Syncs (state self.old) (state self.new) (trial self.old) (trial self.new) result }
         ensures cause { HasCause (faults self.old) (faults self.new) result };
 
     /// Makes room for the next six changing calls, which together write at most so many bytes.
@@ -91,6 +101,7 @@ pub trait Disk {
         ensures ok { OnOk result ((bytes ≤ room self.new) × (6 ≤ calls self.new)) }
         ensures more { (room self.old ≤ room self.new) × (calls self.old ≤ calls self.new) }
         ensures state { state self.new ≡ state self.old }
+        ensures trial { trial self.new ≡ trial self.old }
         ensures faults { faults self.new ≡ faults self.old };
 
     /// What a read gives is one of the contents that a crash may leave.

@@ -1,6 +1,7 @@
 //! A real file as a disk. What it holds no contract can say: it doesn't tell.
 ghost use Rattle.std.specs.Prelude.{◌≡◌, ◌≤◌, ◌<◌, ◌+◌, ◌-◌, ◌^◌, None, length, min, refl, IfOk};
 ghost use Rattle.disk_core.specs.Counts.{HasCause, HasRisen};
+ghost use Rattle.disk_core.specs.FileDisks.{faults_of};
 
 use crate::{Disk, Failed, NoMemory};
 use std::fs::{self, Files, OpenFile, OpenOptions};
@@ -19,6 +20,7 @@ pub struct FileDisk<F: OpenFile + Read + Write + Seek + Drop> {
 pub fn open_file_disk<R: Files>(files: &R, path: &str) -> io::Result<FileDisk<R::File>>
 where
     R::File: OpenFile + Read + Write + Seek + Drop,
+    ensures { IfOk result (λ d. faults_of d ≡ 0) }
 {
     let file = OpenOptions::new()
         .read(true)
@@ -90,6 +92,8 @@ fn told<T: Drop>(outcome: io::Result<T>) -> Result<T, Failed> {
 
 impl<F: OpenFile + Read + Write + Seek + Drop> Disk for FileDisk<F> {
     ghost state = { λ _. None };
+
+    ghost trial = { λ _. None };
 
     ghost faults = { λ d. d.faults };
 

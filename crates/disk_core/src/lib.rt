@@ -5,15 +5,20 @@
 //! model is plain data (`specs/DiskModel.antt`), so that a contract above it can speak of each moment inside a call.
 #![tactic(auto)]
 
+mod bytes;
 mod disk;
 mod file;
 mod image;
 mod memory;
+mod past;
+mod plan;
+mod recent;
 
 pub use disk::{Disk, Failed, NoMemory};
 pub use file::{FileDisk, open_file_disk};
 pub use image::Image;
 pub use memory::MemDisk;
+pub use plan::{Mishap, Pending};
 
 #[cfg(test)]
 mod tests;

@@ -53,22 +53,60 @@ fn a_stop_leaves_its_image(rt: HostRuntime) -> Result<(), Fail> {
     Ok(())
 }
 
+// What the first three changing calls of a disk answer: o where one is done, x where it fails, ! where the disk has stopped in it.
+fn answers_are(rt: &impl Abort, disk: &mut MemDisk, want: &[u8; 3]) -> Result<(), NoMemory> {
+    for answer in want {
+        let done = write(rt, disk, 0, b"a")?;
+        let found = match (done, disk.stopped()) {
+            (true, _) => b'o',
+            (false, None) => b'x',
+            (false, Some(_)) => b'!',
+        };
+        assert_eq!(rt; found, *answer);
+    }
+    Ok(())
+}
+
 #[test]
 fn a_call_fails_where_it_was_planned(rt: HostRuntime) -> Result<(), Fail> {
     let alloc = rt.alloc();
     let mut disk = disk_of(alloc, b"")?;
     disk.fail_at(2)?;
-    disk.stop_at(3, Image::Keep)?;
-    assert!(rt; write(&rt, &mut disk, 0, b"a")?);
-    assert!(rt; !sync(&mut disk)?);
-    assert!(rt; !write(&rt, &mut disk, 0, b"bc")?);
-    assert_eq!(rt; disk.stopped(), Some(Image::Keep));
+    answers_are(&rt, &mut disk, b"oxo")?;
     assert_eq!(rt; disk.made(), 3);
-    // A stopped disk fails in each call.
+    // A stop counts before a failure, and a later stop before an earlier one. All of them are spent.
+    disk.stop_at(2, Image::Keep)?;
+    disk.stop_at(2, Image::Half)?;
+    disk.fail_at(2)?;
+    disk.fail_at(4)?;
+    answers_are(&rt, &mut disk, b"o!!")?;
+    assert_eq!(rt; disk.stopped(), Some(Image::Half));
+    // A stopped disk fails in each call, and counts none.
+    assert_eq!(rt; disk.made(), 5);
     assert_eq!(rt; disk.length(), Err(Failed));
     let mut room = [0; 2];
     assert_eq!(rt; disk.read(0, &mut room), Err(Failed));
-    left_is(&rt, alloc, &disk, Image::Keep, b"bc")?;
+    // What is planned outlives the stop.
+    let mut started = disk.crashed(alloc, Image::Keep)?;
+    left_is(&rt, alloc, &started, Image::Drop, b"a")?;
+    assert_eq!(rt; started.stopped(), None);
+    answers_are(&rt, &mut started, b"oxo")?;
+    Ok(())
+}
+
+#[test]
+fn what_is_sure_stays_through_many_changes(rt: HostRuntime) -> Result<(), Fail> {
+    let alloc = rt.alloc();
+    let mut disk = disk_of(alloc, b"ab")?;
+    assert!(rt; write(&rt, &mut disk, 2, b"cd")?);
+    assert!(rt; cut(&rt, &mut disk, 3)?);
+    assert!(rt; sync(&mut disk)?);
+    assert!(rt; cut(&rt, &mut disk, 1)?);
+    assert!(rt; write(&rt, &mut disk, 1, b"xyz")?);
+    left_is(&rt, alloc, &disk, Image::Keep, b"axyz")?;
+    left_is(&rt, alloc, &disk, Image::Drop, b"abc")?;
+    left_is(&rt, alloc, &disk, Image::Half, b"ax\0\0")?;
+    left_is(&rt, alloc, &disk, Image::Junk, b"a\xFF\xFF\xFF")?;
     Ok(())
 }
 

@@ -3,8 +3,9 @@ use Rattle.std.proofs.Common.{◌≡◌, inl, inr, ⊎_elim, ℕ, suc, ◌+◌, 
 use Rattle.std.specs.Prelude.{Option, Some, None, option_map}
 use Rattle.std.proofs.lemmas.Bool.{cases_eq}
 use Rattle.std.proofs.lemmas.List.{take_at, drop_at, drop_more}
-use Rattle.disk_core.specs.DiskModel.{Wrote, DiskState, Torn, MayLeave, IsSure, LeavesOnly, FailsToWrite, Becomes, patched, changed, written, synced}
+use Rattle.disk_core.specs.DiskModel.{Wrote, DiskState, Torn, MayLeave, IsSure, LeavesOnly, FailsToWrite, Becomes, patched, changed_by, sure_now, written, synced}
 use Rattle.disk_core.proofs.Moments.{started, goes_on}
+use Rattle.record_log.proofs.Told.{some_same}
 use Rattle.record_log.specs.Crash.{IsOpened, IsTorn, Waits}
 
 -- a list is its first n, the next one, and the rest
@@ -46,9 +47,9 @@ module _ (s : DiskState) (place : ℕ) (frame : List ℕ) (w : Waits s place) wh
       let front : take (place + 1) bytes ≡ w.front ++ (gate ∷ []) = ap (λ (n : ℕ). take n bytes) (sym least) ∙ torn.before ∙ gated in
       inl (gate, drop (place + 1) bytes, w.shut.2, sym (take-append-drop (place + 1) bytes) ∙ ap (λ (l : List ℕ). l ++ drop (place + 1) bytes) front ∙ append_assoc w.front (gate ∷ []) (drop (place + 1) bytes))
 
-  first_image : (bytes : List ℕ) → MayLeave (changed s (Wrote (place + 1) frame)) bytes → P bytes
+  first_image : (bytes : List ℕ) → MayLeave (changed_by (Wrote (place + 1) frame) s.now) bytes → P bytes
   first_image bytes left =
-      let torn = subst (λ m. MayLeave (record { sure = m.sure; since = m.since ++ Wrote (place + 1) frame ∷ [] }) bytes) w.sure left in
+      let torn = subst (λ m. MayLeave (changed_by (Wrote (place + 1) frame) m) bytes) w.sure left in
       subst P (sym torn.2) (staged torn.0 torn.1)
 
   abbrev pub s1 : DiskState
@@ -64,11 +65,11 @@ module _ (s : DiskState) (place : ℕ) (frame : List ℕ) (w : Waits s place) wh
   s4 = synced s3
 
   pub first : LeavesOnly s s1 P
-  first = goes_on s s P (patched (place + 1) frame s.seen) (changed s (Wrote (place + 1) frame)) at_start first_image
+  first = goes_on s s P (patched (place + 1) frame s.seen) (changed_by (Wrote (place + 1) frame) s.now) at_start first_image
 
   pub first_fails : (t : DiskState) → FailsToWrite (place + 1) frame s t → LeavesOnly s t P
   first_fails t (inl same) = subst (λ (u : DiskState). LeavesOnly s u P) (sym same) at_start
-  first_fails t (inr torn) = subst (λ (u : DiskState). LeavesOnly s u P) (sym torn.2) (goes_on s s P torn.0 (changed s (Wrote (place + 1) frame)) at_start first_image)
+  first_fails t (inr torn) = subst (λ (u : DiskState). LeavesOnly s u P) (sym torn.2) (goes_on s s P torn.0 (changed_by (Wrote (place + 1) frame) s.now) at_start first_image)
 
   abbrev behind : List ℕ
   behind = drop (place + 1 + length frame) s.seen
@@ -77,7 +78,7 @@ module _ (s : DiskState) (place : ℕ) (frame : List ℕ) (w : Waits s place) wh
   staged_is = ap (λ (l : List ℕ). l ++ (frame ++ behind)) gated ∙ append_assoc w.front (gate ∷ []) (frame ++ behind)
 
   pub second : LeavesOnly s s2 P
-  second = goes_on s s1 P s1.seen (record { sure = s1.seen; since = [] }) first (λ bytes left. inl (gate, frame ++ behind, w.shut.2, left ∙ staged_is))
+  second = goes_on s s1 P s1.seen (sure_now s1.seen) first (λ bytes left. inl (gate, frame ++ behind, w.shut.2, left ∙ staged_is))
 
   -- the frame stands whole in each outcome of the second write
   opened : (bytes : List ℕ) → Torn place 1 s1.seen bytes → P bytes
@@ -97,15 +98,15 @@ module _ (s : DiskState) (place : ℕ) (frame : List ℕ) (w : Waits s place) wh
       (λ isnt. inl (byte, frame ++ behind, isnt, whole))
       (cases_eq byte 1)
 
-  second_image : (bytes : List ℕ) → MayLeave (changed s2 (Wrote place (1 ∷ []))) bytes → P bytes
+  second_image : (bytes : List ℕ) → MayLeave (changed_by (Wrote place (1 ∷ [])) s2.now) bytes → P bytes
   second_image bytes left = subst P (sym left.2) (opened left.0 left.1)
 
   pub third : LeavesOnly s s3 P
-  third = goes_on s s2 P (patched place (1 ∷ []) s2.seen) (changed s2 (Wrote place (1 ∷ []))) second second_image
+  third = goes_on s s2 P (patched place (1 ∷ []) s2.seen) (changed_by (Wrote place (1 ∷ [])) s2.now) second second_image
 
   pub third_fails : (t : DiskState) → FailsToWrite place (1 ∷ []) s2 t → LeavesOnly s t P
   third_fails t (inl same) = subst (λ (u : DiskState). LeavesOnly s u P) (sym same) second
-  third_fails t (inr torn) = subst (λ (u : DiskState). LeavesOnly s u P) (sym torn.2) (goes_on s s2 P torn.0 (changed s2 (Wrote place (1 ∷ []))) second second_image)
+  third_fails t (inr torn) = subst (λ (u : DiskState). LeavesOnly s u P) (sym torn.2) (goes_on s s2 P torn.0 (changed_by (Wrote place (1 ∷ [])) s2.now) second second_image)
 
   pub opened_is : s3.seen ≡ w.front ++ (1 ∷ (frame ++ behind))
   opened_is =
@@ -116,7 +117,7 @@ module _ (s : DiskState) (place : ℕ) (frame : List ℕ) (w : Waits s place) wh
       λ i. front i ++ (1 ∷ tail i)
 
   pub fourth : LeavesOnly s s4 P
-  fourth = goes_on s s3 P s3.seen (record { sure = s3.seen; since = [] }) third (λ bytes left. inr (behind, left ∙ opened_is))
+  fourth = goes_on s s3 P s3.seen (sure_now s3.seen) third (λ bytes left. inr (behind, left ∙ opened_is))
 
 -- where the disk tells, what a crash inside the append may leave
 abbrev pub Left : ℕ → List ℕ → Option DiskState → Option DiskState → Type 0
@@ -132,46 +133,38 @@ pub after_failed_write : (place : ℕ) (frame : List ℕ) (o o1 : Option DiskSta
 after_failed_write place frame None o1 file failed = failed
 after_failed_write place frame (Some s) o1 file failed = shown s failed.0 place frame (file s refl) o1 failed.1 (first_fails s place frame (file s refl) failed.0 failed.2)
 
-pub after_write : (place : ℕ) (frame : List ℕ) (o o1 : Option DiskState) → File place o → o1 ≡ option_map (written (place + 1) frame) o → Left place frame o o1
-after_write place frame None o1 file is = is
-after_write place frame (Some s) o1 file is = shown s (s1 s place frame (file s refl)) place frame (file s refl) o1 is (first s place frame (file s refl))
+-- the frame stands behind the gate, and is sure
+abbrev pub Staged : ℕ → List ℕ → Option DiskState → Option DiskState → Type 0
+Staged place frame o o2 = o2 ≡ option_map (λ x. synced (written (place + 1) frame x)) o
 
-pub after_failed_gate : (place : ℕ) (frame : List ℕ) (o o1 o2 o3 : Option DiskState) → File place o → o1 ≡ option_map (written (place + 1) frame) o → o2 ≡ option_map synced o1
-    → Becomes (FailsToWrite place (1 ∷ [])) o2 o3 → Left place frame o o3
-after_failed_gate place frame None o1 o2 o3 file is1 is2 failed =
-    let none : o2 ≡ None = is2 ∙ ap (λ x. option_map synced x) is1 in
-    let P : Option DiskState → Type 0 = λ x. Becomes (FailsToWrite place (1 ∷ [])) x o3 in
-    subst P none failed
-after_failed_gate place frame (Some s) o1 o2 o3 file is1 is2 failed =
+-- and the gate is open
+abbrev pub Opened : ℕ → Option DiskState → Option DiskState → Type 0
+Opened place o2 o4 = o4 ≡ option_map (λ x. synced (written place (1 ∷ []) x)) o2
+
+pub after_failed_gate : (place : ℕ) (frame : List ℕ) (o o2 o3 : Option DiskState) → File place o → Staged place frame o o2 → Becomes (FailsToWrite place (1 ∷ [])) o2 o3 → Left place frame o o3
+after_failed_gate place frame None o2 o3 file staged failed = let P : Option DiskState → Type 0 = λ x. Becomes (FailsToWrite place (1 ∷ [])) x o3 in subst P staged failed
+after_failed_gate place frame (Some s) o2 o3 file staged failed =
     let w = file s refl in
-    let some : o2 ≡ Some (s2 s place frame w) = is2 ∙ ap (λ x. option_map synced x) is1 in
     let P : Option DiskState → Type 0 = λ x. Becomes (FailsToWrite place (1 ∷ [])) x o3 in
-    let told = subst P some failed in
+    let told = subst P staged failed in
     shown s told.0 place frame w o3 told.1 (third_fails s place frame w told.0 told.2)
 
-pub after_gate : (place : ℕ) (frame : List ℕ) (o o1 o2 o3 : Option DiskState) → File place o → o1 ≡ option_map (written (place + 1) frame) o → o2 ≡ option_map synced o1
-    → o3 ≡ option_map (written place (1 ∷ [])) o2 → Left place frame o o3
-after_gate place frame None o1 o2 o3 file is1 is2 is3 = is3 ∙ ap (λ x. option_map (written place (1 ∷ [])) x) (is2 ∙ ap (λ x. option_map synced x) is1)
-after_gate place frame (Some s) o1 o2 o3 file is1 is2 is3 =
-    let w = file s refl in
-    shown s (s3 s place frame w) place frame w o3 (is3 ∙ ap (λ x. option_map (written place (1 ∷ [])) x) (is2 ∙ ap (λ x. option_map synced x) is1)) (third s place frame w)
+opened_option : (place : ℕ) (frame : List ℕ) (o o2 o4 : Option DiskState) → Staged place frame o o2 → Opened place o2 o4
+    → o4 ≡ option_map (λ x. synced (written place (1 ∷ []) x)) (option_map (λ x. synced (written (place + 1) frame x)) o)
+opened_option place frame o o2 o4 staged opened = opened ∙ ap (λ x. option_map (λ y. synced (written place (1 ∷ []) y)) x) staged
 
-pub after_all : (place : ℕ) (frame : List ℕ) (o o1 o2 o3 o4 : Option DiskState) → File place o → o1 ≡ option_map (written (place + 1) frame) o → o2 ≡ option_map synced o1
-    → o3 ≡ option_map (written place (1 ∷ [])) o2 → o4 ≡ option_map synced o3 → Left place frame o o4
-after_all place frame None o1 o2 o3 o4 file is1 is2 is3 is4 =
-    is4 ∙ ap (λ x. option_map synced x) (is3 ∙ ap (λ x. option_map (written place (1 ∷ [])) x) (is2 ∙ ap (λ x. option_map synced x) is1))
-after_all place frame (Some s) o1 o2 o3 o4 file is1 is2 is3 is4 =
+pub after_all : (place : ℕ) (frame : List ℕ) (o o2 o4 : Option DiskState) → File place o → Staged place frame o o2 → Opened place o2 o4 → Left place frame o o4
+after_all place frame None o2 o4 file staged opened = opened_option place frame None o2 o4 staged opened
+after_all place frame (Some s) o2 o4 file staged opened =
     let w = file s refl in
-    shown s (s4 s place frame w) place frame w o4 (is4 ∙ ap (λ x. option_map synced x) (is3 ∙ ap (λ x. option_map (written place (1 ∷ [])) x) (is2 ∙ ap (λ x. option_map synced x) is1))) (fourth s place frame w)
+    shown s (s4 s place frame w) place frame w o4 (opened_option place frame (Some s) o2 o4 staged opened) (fourth s place frame w)
 
-pub all_done : (place : ℕ) (frame : List ℕ) (o o1 o2 o3 o4 : Option DiskState) → File place o → o1 ≡ option_map (written (place + 1) frame) o → o2 ≡ option_map synced o1
-    → o3 ≡ option_map (written place (1 ∷ [])) o2 → o4 ≡ option_map synced o3 → Becomes (λ s t. IsSure t × IsOpened (take place s.seen) frame t.seen) o o4
-all_done place frame None o1 o2 o3 o4 file is1 is2 is3 is4 =
-    is4 ∙ ap (λ x. option_map synced x) (is3 ∙ ap (λ x. option_map (written place (1 ∷ [])) x) (is2 ∙ ap (λ x. option_map synced x) is1))
-all_done place frame (Some s) o1 o2 o3 o4 file is1 is2 is3 is4 =
+pub all_done : (place : ℕ) (frame : List ℕ) (o o2 o4 : Option DiskState) → File place o → Staged place frame o o2 → Opened place o2 o4 → Becomes (λ s t. IsSure t × IsOpened (take place s.seen) frame t.seen) o o4
+all_done place frame None o2 o4 file staged opened = opened_option place frame None o2 o4 staged opened
+all_done place frame (Some s) o2 o4 file staged opened =
     let w = file s refl in (
       s4 s place frame w,
-      is4 ∙ ap (λ x. option_map synced x) (is3 ∙ ap (λ x. option_map (written place (1 ∷ [])) x) (is2 ∙ ap (λ x. option_map synced x) is1)),
+      opened_option place frame (Some s) o2 o4 staged opened,
       (
         refl,
         (
@@ -185,13 +178,10 @@ all_done place frame (Some s) o1 o2 o3 o4 file is1 is2 is3 is4 =
 pub place_first : (place : ℕ) (o : Option DiskState) → File place o → (s : DiskState) → o ≡ Some s → place + 1 ≤ length s.seen
 place_first place o file s is = let w = file s is in omega (arith, ap length w.shut.3, length-append w.front (w.shut.0 ∷ w.shut.1), w.length_front)
 
-pub place_second : (place : ℕ) (frame : List ℕ) (o o1 o2 : Option DiskState) → File place o → o1 ≡ option_map (written (place + 1) frame) o → o2 ≡ option_map synced o1 → (s : DiskState) → o2 ≡ Some s → place ≤ length s.seen
-place_second place frame None o1 o2 file is1 is2 s is = absurd (cc (sym is ∙ is2 ∙ ap (λ x. option_map synced x) is1))
-place_second place frame (Some t) o1 o2 file is1 is2 s is =
-    let same : Some s ≡ Some (s2 t place frame (file t refl)) = sym is ∙ is2 ∙ ap (λ x. option_map synced x) is1 in
-    let whole : s.seen ≡ take (place + 1) t.seen ++ (frame ++ drop (place + 1 + length frame) t.seen) = ap (λ (x : DiskState). x.seen) (inner same) in
+pub place_second : (place : ℕ) (frame : List ℕ) (o o2 : Option DiskState) → File place o → Staged place frame o o2 → (s : DiskState) → o2 ≡ Some s → place ≤ length s.seen
+place_second place frame None o2 file staged s is = absurd (cc (sym is ∙ staged))
+place_second place frame (Some t) o2 file staged s is =
+    let same : s ≡ s2 t place frame (file t refl) = some_same s (s2 t place frame (file t refl)) (sym is ∙ staged) in
+    let whole : s.seen ≡ take (place + 1) t.seen ++ (frame ++ drop (place + 1 + length frame) t.seen) = ap (λ (x : DiskState). x.seen) same in
     let first = place_first place (Some t) file t refl in
     omega (arith, ap length whole, length-append (take (place + 1) t.seen) (frame ++ drop (place + 1 + length frame) t.seen), length-take (place + 1) t.seen, first)
-  where
-    inner : {x y : DiskState} → Some x ≡ Some y → x ≡ y
-    inner e = cc e

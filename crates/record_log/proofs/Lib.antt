@@ -5,3 +5,4 @@ pub mod Opened
 pub mod Openings
 pub mod Pairs
 pub mod RecordReads
+pub mod Told

@@ -7,19 +7,17 @@ use Rattle.record_log.specs.Files.{IsLog, IsLogIn}
 use Rattle.record_log.specs.LogView.{AnyMoment, IsNew, IsStored, IsStoredIn, ordered_of}
 use Rattle.record_log.specs.declared.files.DiskPair.{DiskPair}
 use Rattle.record_log.specs.Format.{new_file}
+use Rattle.record_log.proofs.Told.{some_same}
 use Rattle.record_log.proofs.RecordReads.{reads_none}
 use Rattle.record_log.proofs.Openings.{ShortLeft, short_files}
 use Rattle.record_log.proofs.Pairs.{log_records, log_records_swapped}
-
-some_is : (x y : DiskState) → Some x ≡ Some y → x ≡ y
-some_is x y is = cc
 
 stored_synced : (o p o' p' : Option DiskState) (records : List (List ℕ)) (gate : ℕ) → ((a b : DiskState) → o ≡ Some a → p ≡ Some b → IsLog a.seen b.seen records gate) → o' ≡ option_map synced o → p' ≡ option_map synced p → IsStored o' p' records gate
 stored_synced None p o' p' records gate told is is_other a b is_a is_b = absurd (cc (sym is_a ∙ is))
 stored_synced (Some s) None o' p' records gate told is is_other a b is_a is_b = absurd (cc (sym is_b ∙ is_other))
 stored_synced (Some s) (Some t) o' p' records gate told is is_other a b is_a is_b =
-    let first : a ≡ synced s = some_is a (synced s) (sym is_a ∙ is) in
-    let second : b ≡ synced t = some_is b (synced t) (sym is_b ∙ is_other) in
+    let first : a ≡ synced s = some_same a (synced s) (sym is_a ∙ is) in
+    let second : b ≡ synced t = some_same b (synced t) (sym is_b ∙ is_other) in
     let here : IsSure (synced s) × IsSure (synced t) × IsLog s.seen t.seen records gate = (refl, refl, told s t refl refl) in
     let P : DiskState → DiskState → Type 0 = λ x y. IsSure x × IsSure y × IsLog x.seen y.seen records gate in
     let step : P a (synced t) = subst (λ (x : DiskState). P x (synced t)) (sym first) here in
@@ -73,7 +71,7 @@ new_moments o p o' p' left other_left a b is_a is_b =
 
 told_made : (o o' : Option DiskState) (file : List ℕ) → Becomes (λ s t. IsSure t × (t.seen ≡ file)) o o' → (a : DiskState) → o' ≡ Some a → IsSure a × (a.seen ≡ file)
 told_made None o' file told a is = absurd (cc (sym is ∙ told))
-told_made (Some s) o' file told a is = let P : DiskState → Type 0 = λ x. IsSure x × (x.seen ≡ file) in subst P (some_is told.0 a (sym told.1 ∙ is)) told.2
+told_made (Some s) o' file told a is = let P : DiskState → Type 0 = λ x. IsSure x × (x.seen ≡ file) in subst P (some_same told.0 a (sym told.1 ∙ is)) told.2
 
 new_log : IsLog (new_file 1 1) (new_file 0 0) [] 17
 new_log = record {

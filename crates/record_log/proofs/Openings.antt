@@ -4,7 +4,7 @@ use Rattle.std.specs.Prelude.{Option, Some, None, option_map, if◌then◌else�
 use Rattle.std.proofs.lemmas.Bool.{cases_eq}
 use Rattle.std.proofs.lemmas.Bool.Decides.{nat_tests}
 use Rattle.std.proofs.lemmas.List.{append-nil, drop_all}
-use Rattle.disk_core.specs.DiskModel.{Wrote, DiskState, MayLeave, LeavesOnly, FailsToWrite, Becomes, patched, changed, written, synced}
+use Rattle.disk_core.specs.DiskModel.{Wrote, DiskState, MayLeave, LeavesOnly, FailsToWrite, Becomes, patched, changed_by, sure_now, written, synced}
 use Rattle.disk_core.proofs.Moments.{started, goes_on}
 use Rattle.record_log.specs.Recovery.{has_mark, is_current, records_past, records_of}
 use Rattle.record_log.specs.Files.{IsEmpty, MaySync}
@@ -16,7 +16,7 @@ sync_leaves None o' stays told = told
 sync_leaves (Some s) o' stays told =
     let at_start : LeavesOnly s s (MayLeave s.now) = started s (MayLeave s.now) (λ bytes left. left) in
     let after : LeavesOnly s (synced s) (MayLeave s.now) =
-    goes_on s s (MayLeave s.now) s.seen (record { sure = s.seen; since = [] }) at_start (λ bytes left. subst (MayLeave s.now) (sym left) (stays s refl)) in
+    goes_on s s (MayLeave s.now) s.seen (sure_now s.seen) at_start (λ bytes left. subst (MayLeave s.now) (sym left) (stays s refl)) in
     let P : DiskState → Type 0 = λ t. LeavesOnly s t (MayLeave s.now) in
     (told.0, told.1, ⊎_elim (λ same. subst P (sym same) at_start) (λ is. subst P (sym is) after) told.2)
 
@@ -27,17 +27,17 @@ module _ (s : DiskState) (piece : List ℕ) (empty : IsEmpty s) (size : length p
   none_yet : LeavesOnly s s Short
   none_yet = started s Short (λ bytes left. omega (arith, ap length (subst (λ m. MayLeave m bytes) empty.sure left ∙ empty.seen)))
 
-  made_image : (bytes : List ℕ) → MayLeave (changed s (Wrote 0 piece)) bytes → Short bytes
+  made_image : (bytes : List ℕ) → MayLeave (changed_by (Wrote 0 piece) s.now) bytes → Short bytes
   made_image bytes left =
-      let torn = subst (λ m. MayLeave (record { sure = m.sure; since = m.since ++ Wrote 0 piece ∷ [] }) bytes) empty.sure left in
+      let torn = subst (λ m. MayLeave (changed_by (Wrote 0 piece) m) bytes) empty.sure left in
       omega (arith, ap length torn.2, torn.1.no_longer, ap length empty.seen, size)
 
   wrote_one : LeavesOnly s (written 0 piece s) Short
-  wrote_one = goes_on s s Short (patched 0 piece s.seen) (changed s (Wrote 0 piece)) none_yet made_image
+  wrote_one = goes_on s s Short (patched 0 piece s.seen) (changed_by (Wrote 0 piece) s.now) none_yet made_image
 
   fails_one : (t : DiskState) → FailsToWrite 0 piece s t → LeavesOnly s t Short
   fails_one t (inl same) = subst (λ (u : DiskState). LeavesOnly s u Short) (sym same) none_yet
-  fails_one t (inr torn) = subst (λ (u : DiskState). LeavesOnly s u Short) (sym torn.2) (goes_on s s Short torn.0 (changed s (Wrote 0 piece)) none_yet made_image)
+  fails_one t (inr torn) = subst (λ (u : DiskState). LeavesOnly s u Short) (sym torn.2) (goes_on s s Short torn.0 (changed_by (Wrote 0 piece) s.now) none_yet made_image)
 
   written_is : (written 0 piece s).seen ≡ piece
   written_is =
@@ -45,7 +45,7 @@ module _ (s : DiskState) (piece : List ℕ) (empty : IsEmpty s) (size : length p
       ap (λ (l : List ℕ). piece ++ l) none ∙ append-nil piece
 
   synced_one : LeavesOnly s (synced (written 0 piece s)) Short
-  synced_one = goes_on s (written 0 piece s) Short (written 0 piece s).seen (record { sure = (written 0 piece s).seen; since = [] }) wrote_one (λ bytes left. omega (arith, ap length (left ∙ written_is), size))
+  synced_one = goes_on s (written 0 piece s) Short (written 0 piece s).seen (sure_now (written 0 piece s).seen) wrote_one (λ bytes left. omega (arith, ap length (left ∙ written_is), size))
 
 abbrev pub ShortLeft : Option DiskState → Option DiskState → Type 0
 ShortLeft old new = Becomes (λ s t. LeavesOnly s t (λ bytes. length bytes ≤ 18)) old new
@@ -63,14 +63,10 @@ failed_made piece (Some s) o1 o2 size empty same failed =
     let told = subst (λ x. Becomes (FailsToWrite 0 piece) x o2) same failed in
     (told.0, told.1, fails_one s piece (empty s refl) size told.0 told.2)
 
-pub wrote_made : (piece : List ℕ) (o o1 o2 : Option DiskState) → length piece ≡ 18 → Empty o → o1 ≡ o → o2 ≡ option_map (written 0 piece) o1 → ShortLeft o o2
-wrote_made piece None o1 o2 size empty same is = is ∙ ap (λ x. option_map (written 0 piece) x) same
-wrote_made piece (Some s) o1 o2 size empty same is = (written 0 piece s, is ∙ ap (λ x. option_map (written 0 piece) x) same, wrote_one s piece (empty s refl) size)
-
-pub synced_made : (piece : List ℕ) (o o1 o2 o3 : Option DiskState) → length piece ≡ 18 → Empty o → o1 ≡ o → o2 ≡ option_map (written 0 piece) o1 → o3 ≡ option_map synced o2 → ShortLeft o o3
-synced_made piece None o1 o2 o3 size empty same is sure = sure ∙ ap (λ x. option_map synced x) (is ∙ ap (λ x. option_map (written 0 piece) x) same)
-synced_made piece (Some s) o1 o2 o3 size empty same is sure =
-    (synced (written 0 piece s), sure ∙ ap (λ x. option_map synced x) (is ∙ ap (λ x. option_map (written 0 piece) x) same), synced_one s piece (empty s refl) size)
+pub sure_made : (piece : List ℕ) (o o1 o2 : Option DiskState) → length piece ≡ 18 → Empty o → o1 ≡ o → o2 ≡ option_map (λ x. synced (written 0 piece x)) o1 → ShortLeft o o2
+sure_made piece None o1 o2 size empty same is = is ∙ ap (λ x. option_map (λ y. synced (written 0 piece y)) x) same
+sure_made piece (Some s) o1 o2 size empty same is =
+    (synced (written 0 piece s), is ∙ ap (λ x. option_map (λ y. synced (written 0 piece y)) x) same, synced_one s piece (empty s refl) size)
 
 -- a file as short as its head and one gate has no record
 pub short_past : (n : ℕ) (bytes : List ℕ) → length bytes ≤ n + 1 → (records_past n bytes ≡ Some []) ⊎ (records_past n bytes ≡ None)

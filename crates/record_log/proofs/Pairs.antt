@@ -14,6 +14,7 @@ use Rattle.record_log.specs.Layout.{Reads, size_of, with_front}
 use Rattle.record_log.specs.Files.{IsLog}
 use Rattle.record_log.specs.Crash.{IsShut, IsOpened, IsTorn, Waits}
 use Rattle.record_log.specs.LogView.{IsStored, CrashLeaves, AnyMoment, IsBeforeOrAfter}
+use Rattle.record_log.proofs.Told.{some_same}
 use Rattle.record_log.proofs.RecordReads.{past_drop, shut_none, reads_both, reads_one}
 
 le_is : (a b : ℕ) → a ≤ b → nat_le a b ≡ true
@@ -214,9 +215,6 @@ pub stored_leaves : (o p : Option DiskState) (records : List (List ℕ)) (gate :
 stored_leaves o p records gate stored a b is_a is_b c d left_c left_d =
     let st = stored a b is_a is_b in
     (λ i. records_of (sure_leaves a st.0 c left_c i) (sure_leaves b st.1 d left_d i)) ∙ log_records a.seen b.seen records gate st.2
-
-some_same : (x y : DiskState) → Some x ≡ Some y → x ≡ y
-some_same x y is = cc
 
 -- after the append the new record is stored
 pub stored_more : (o p o' p' : Option DiskState) (records : List (List ℕ)) (gate : ℕ) (payload : List ℕ) → length payload ≤ 8388608 → IsStored o p records gate

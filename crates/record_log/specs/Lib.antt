@@ -6,3 +6,4 @@ pub mod Layout
 pub mod LogView
 pub mod Recovery
 pub mod RecordLists
+pub mod Steps

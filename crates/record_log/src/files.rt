@@ -9,6 +9,7 @@ ghost use Rattle.record_log.specs.Layout.{EndsAt, size_of};
 ghost use Rattle.record_log.specs.Recovery.{records_past};
 ghost use Rattle.record_log.specs.RecordLists.{list_of};
 
+use crate::appending::write_sure;
 use crate::reading::{Body, ReadFault, read_records};
 use crate::{LogFault, Records};
 use byteorder::{ByteOrder, LittleEndian};
@@ -220,8 +221,7 @@ pub fn make_file<D: Disk>(disk: &mut D, gate: u8, generation: u64) -> Result<(),
     ensures cause { FaultCause (D.faults disk.old) (D.faults disk.new) (IsErrOf result LogFault.DiskFault) }
 {
     disk.ready(18)?;
-    disk.write_at(0, &new_bytes(gate, generation))?;
-    disk.sync()?;
+    write_sure(disk, 0, &new_bytes(gate, generation))?;
     Ok(())
 }
 

@@ -1,6 +1,8 @@
 //! The log: records that are right after a crash at any moment.
-ghost use Rattle.std.specs.Prelude.{◌≡◌, ◌≢◌, ◌⊎◌, ◌≤◌, ◌<◌, ◌+◌, ◌^◌, min, ℕ, true, false, Some, List, [], ◌∷◌, ◌++◌, length, IfOk, IfErr, OnOk, OnErr, IsErrOf, IsErr, IsOk, Err, false, ◌-◌, vec_capacity, option_map};
+ghost use Rattle.std.specs.Prelude.{◌≡◌, ◌≢◌, ◌⊎◌, ◌≤◌, ◌<◌, ◌+◌, ◌^◌, min, ℕ, true, false, Some, List, [], ◌∷◌, ◌++◌, length, IfOk, IfErr, OnOk, OnErr, IsErrOf, IsErr, IsOk, is_ok, Err, ◌-◌, vec_capacity, option_map};
 ghost use Rattle.disk_core.specs.DiskModel.{DiskState, IsSure, Becomes, MayLeave, LeavesOnly, synced};
+ghost use Rattle.disk_core.specs.Steps.{GoThrough};
+ghost use Rattle.record_log.specs.Steps.{append_steps};
 ghost use Rattle.record_log.specs.Format.{framed, log_size};
 ghost use Rattle.record_log.specs.Recovery.{records_of};
 ghost use Rattle.record_log.specs.Files.{FaultCause, Counted, IsEmpty, IsRefused};
@@ -295,6 +297,7 @@ impl<D: Disk> Log<D> {
         ensures kept { self.new ≡ record self.old { current = self.new.current; ready = self.new.ready } }
         ensures more { self.old.ready ≤ self.new.ready }
         ensures state { D.state self.new.current ≡ D.state self.old.current }
+        ensures trial { D.trial self.new.current ≡ D.trial self.old.current }
         ensures faults { D.faults self.new.current ≡ D.faults self.old.current }
     {
         let bytes = bytes.min(MAX_PAYLOAD);
@@ -328,9 +331,11 @@ impl<D: Disk> Log<D> {
         ensures no_memory { IsErrOf result LogFault.NoMemory → self.old.ready ≤ length payload.now }
         ensures not_refused { (found : List ℕ) (bytes : ℕ) → IsErrOf result (LogFault.NotALog found bytes) → ⊥ }
         ensures cause { FaultCause (D.faults self.old.current) (D.faults self.new.current) (IsErrOf result LogFault.DiskFault) }
+        // Where the disk tells of a plan, an append that makes a call goes as it was planned.
+        ensures planned { (OnErr result (result ≡ Err LogFault.DiskFault)) → GoThrough (append_steps (17 + size_of self.old.records) (framed payload.now)) (D.state self.old.current) (D.trial self.old.current) (D.state self.new.current) (D.trial self.new.current) (is_ok result) }
 
         ensures failed { IsErrOf result LogFault.DiskFault → self.new ≡ record self.old { current = self.new.current; ready = 0; sound = false } }
-        ensures kept { OnErr result (result ≢ Err LogFault.DiskFault → (self.new ≡ record self.old { current = self.new.current; ready = self.new.ready }) × (D.state self.new.current ≡ D.state self.old.current)) }
+        ensures kept { OnErr result (result ≢ Err LogFault.DiskFault → (self.new ≡ record self.old { current = self.new.current; ready = self.new.ready }) × (D.state self.new.current ≡ D.state self.old.current) × (D.trial self.new.current ≡ D.trial self.old.current)) }
     {
         let bytes = payload.len() as u64;
         if self.most <= self.gate || self.most - self.gate - 1 < bytes + 5 {
@@ -350,6 +355,7 @@ impl<D: Disk> Log<D> {
         requires fits { log_size (self.old.records ++ payload.now ∷ []) < 2 ^ 64 }
         ensures appended { OnOk result (self.new ≡ record self.old { current = self.new.current; records = self.old.records ++ payload.now ∷ []; ready = 0 }) }
         ensures failed { OnErr result (self.new ≡ record self.old { current = self.new.current; ready = 0; sound = false }) }
+        ensures planned { GoThrough (append_steps (17 + size_of self.old.records) (framed payload.now)) (D.state self.old.current) (D.trial self.old.current) (D.state self.new.current) (D.trial self.new.current) (is_ok result) }
         ensures only { IfErr result (λ fault. fault ≡ LogFault.DiskFault) }
         ensures any_moment { AnyMoment (D.state self.old.current) (D.state self.old.other) (D.state self.new.current) (D.state self.new.other) (IsBeforeOrAfter self.old.records payload.now) }
         ensures acknowledged { OnOk result (CrashLeaves (D.state self.new.current) (D.state self.new.other) (λ c d. records_of c d ≡ Some self.new.records)) }

@@ -30,17 +30,16 @@ fn records_are(rt: &impl Abort, log: &Log<MemDisk>, want: &[&[u8]]) {
     }
 }
 
-// A new log whose main disk fails or stops at a call.
-fn new_log(
-    alloc: Global,
-    most: u64,
-    call: u64,
-    stop: Option<Image>,
-) -> Result<Log<MemDisk>, LogFault> {
+// A mishap of the main disk: a call, counted from 1 at the first, and the image of a stop.
+type Planned = Option<(u64, Option<Image>)>;
+
+// A new log whose main disk fails or stops where it is planned.
+fn new_log(alloc: Global, most: u64, planned: Planned) -> Result<Log<MemDisk>, LogFault> {
     let mut main = MemDisk::new(alloc, Vec::new(alloc))?;
-    match stop {
-        Some(image) => main.stop_at(call, image)?,
-        None => main.fail_at(call)?,
+    match planned {
+        Some((call, Some(image))) if call > 0 => main.stop_at(call, image)?,
+        Some((call, None)) if call > 0 => main.fail_at(call)?,
+        _ => {}
     }
     let spare = MemDisk::new(alloc, Vec::new(alloc))?;
     match Log::create(alloc, DiskPair { main, spare }, most.min(1 << 30)) {
@@ -92,7 +91,7 @@ const NEW_SPARE: &[u8] = b"SPFLOG01\0\0\0\0\0\0\0\0\0\0";
 #[test]
 fn a_record_stands_in_the_file_as_published(rt: HostRuntime) -> Result<(), Fail> {
     let alloc = rt.alloc();
-    let mut log = new_log(alloc, MOST, 0, None)?;
+    let mut log = new_log(alloc, MOST, None)?;
     append(&rt, &mut log, &DECIDE)?;
     let mut want = Vec::from_slice(alloc, b"SPFLOG01\x01\x01\0\0\0\0\0\0\0\x01\x1B\0\0\0")?;
     want.extend_from_slice(&DECIDE)?;
@@ -109,7 +108,7 @@ fn torn(
     image: Image,
     leaves: bool,
 ) -> Result<(), LogFault> {
-    let mut log = new_log(alloc, MOST, call.saturating_add(6), Some(image))?;
+    let mut log = new_log(alloc, MOST, Some((call.saturating_add(6), Some(image))))?;
     append(rt, &mut log, b"aa")?;
     assert_eq!(rt; append(rt, &mut log, b"bb"), Err(LogFault::DiskFault));
     assert!(rt; !log.is_sound());
@@ -139,7 +138,7 @@ fn a_torn_append_leaves_the_record_whole_or_not_at_all(rt: HostRuntime) -> Resul
 fn a_log_is_opened_again_after_a_fault(rt: HostRuntime) -> Result<(), Fail> {
     let alloc = rt.alloc();
     for call in 7..=10 {
-        let mut log = new_log(alloc, MOST, call, None)?;
+        let mut log = new_log(alloc, MOST, Some((call, None)))?;
         append(&rt, &mut log, b"aa")?;
         assert_eq!(rt; append(&rt, &mut log, b"bb"), Err(LogFault::DiskFault));
         reopen(&mut log)?;
@@ -222,11 +221,27 @@ fn the_greater_generation_is_read(rt: HostRuntime) -> Result<(), Fail> {
 #[test]
 fn a_log_is_full_at_its_length(rt: HostRuntime) -> Result<(), Fail> {
     let alloc = rt.alloc();
-    let mut log = new_log(alloc, 26, 0, None)?;
+    let mut log = new_log(alloc, 26, None)?;
     assert_eq!(rt;
         append(&rt, &mut log, b"abcd"),
         Err(LogFault::Full { bytes: 27 })
     );
     assert_eq!(rt; append(&rt, &mut log, b"abc"), Ok(()));
+    Ok(())
+}
+
+// Appends a record of the longest payload. One byte more is against the condition of `append`.
+fn append_longest(rt: &impl Abort, alloc: Global) -> Result<(), LogFault> {
+    let mut log = new_log(alloc, 1 << 24, None)?;
+    let payload = vec![in alloc; 7u8; MAX_PAYLOAD as usize]?;
+    append(rt, &mut log, &payload)?;
+    let log = open_stopped(alloc, log, Image::Drop)?;
+    records_are(rt, &log, &[&payload]);
+    Ok(())
+}
+
+#[test]
+fn the_longest_payload_is_taken(rt: HostRuntime) -> Result<(), Fail> {
+    append_longest(&rt, rt.alloc())?;
     Ok(())
 }

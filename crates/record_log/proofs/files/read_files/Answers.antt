@@ -1,9 +1,8 @@
-use Rattle.std.proofs.Common.{◌≡◌, List, ℕ, sym, ◌∙◌, ap}
-use Rattle.std.specs.Prelude.{IsErrOf, Err}
+use Rattle.std.proofs.Common.{◌≡◌, List, ℕ, sym, ◌∙◌}
 use Rattle.record_log.specs.RecordLists.{list_of}
-use Rattle.record_log.specs.declared.fault.LogFault.{LogFault}
 use Rattle.record_log.specs.declared.fault.LogFault.TheVariants.{NotALog}
 use Rattle.record_log.specs.declared.files.Found.{Found}
+use Rattle.record_log.proofs.Told.{err_is, err_of}
 use Rattle.record_log.proofs.FilesFound.{mark_is, leads_is, is_log, none_current, none_main, none_spare, refused}
 use Rattle.record_log.proofs.files.read_files.Goals as goal
 
@@ -12,12 +11,6 @@ same_found f g m n is = cc
 
 same_size : (f g : List ℕ) (m n : ℕ) → NotALog f m ≡ NotALog g n → m ≡ n
 same_size f g m n is = cc
-
-err_is : {T : Type 0} (f e : LogFault) → IsErrOf {T = T} {E = LogFault} (Err f) e → f ≡ e
-err_is f e is = cc
-
-err_of : {T : Type 0} (f e : LogFault) → f ≡ e → IsErrOf {T = T} {E = LogFault} (Err f) e
-err_of f e is = ap (λ (x : LogFault). Err x) is
 
 pub returns-in-Ok-clause-told : goal.returns-in-Ok-clause-told
 returns-in-Ok-clause-told g c = λ a b is_a is_b.

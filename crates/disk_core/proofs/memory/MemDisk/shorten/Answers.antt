@@ -1,7 +1,8 @@
 use Rattle.std.proofs.Common.{List, ℕ, ◌∙◌, ap, sym, take}
-use Rattle.disk_core.specs.DiskModel.{DiskState, start}
-use Rattle.disk_core.specs.History.{total}
-use Rattle.disk_core.proofs.Replays.{called_shortened, total_cut}
+use Rattle.disk_core.specs.DiskModel.{CutTo}
+use Rattle.disk_core.specs.Recents.{moment_of}
+use Rattle.disk_core.specs.declared.image.Image.TheVariants.{Keep}
+use Rattle.disk_core.proofs.Changes.{image_changed}
 use Rattle.disk_core.proofs.memory.MemDisk.shorten.Goals as goal
 
 pub invariant_of-self : goal.invariant_of-self
@@ -9,9 +10,5 @@ invariant_of-self c = record {
   same =
       c.truncate.ensures.items
       ∙ ap (λ (bytes : List ℕ). take c.args.len bytes) c.args.self.now.same
-      ∙ sym (ap (λ (s : DiskState). s.seen) (called_shortened _ _ _ c.args.len (start c.args.self.now.first.items) c.push_reserved.ensures.items));
-  whole = ap total c.push_reserved.ensures.items ∙ total_cut c.args.self.now.calls.items c.args.len ∙ c.args.self.now.whole;
+      ∙ sym (image_changed Keep (CutTo c.args.len) (moment_of c.args.self.now.recent) _ c.cut.ensures.moment);
 }
-
-pub returns-clause-state : goal.returns-clause-state
-returns-clause-state c = called_shortened _ _ _ c.args.len (start c.args.self.now.first.items) c.push_reserved.ensures.items

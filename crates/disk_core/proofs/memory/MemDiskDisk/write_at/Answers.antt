@@ -1,15 +1,14 @@
 use Rattle.std.proofs.Common.{inr, refl, ◌∙◌, ap, arith}
-use Rattle.disk_core.specs.DiskModel.{patched, written}
+use Rattle.disk_core.specs.DiskModel.{patched}
 use Rattle.disk_core.specs.Memory.{state_of}
 use Rattle.disk_core.specs.Stays.{torn_patch}
 use Rattle.disk_core.proofs.memory.MemDiskDisk.write_at.Goals as goal
 
-pub returns-in-Stops-clause-torn : goal.returns-in-Stops-clause-torn
-returns-in-Stops-clause-torn c =
+pub returns-in-Some-Stop-clause-torn : goal.returns-in-Some-Stop-clause-torn
+returns-in-Some-Stop-clause-torn c =
     let before = state_of c.args.self.now in
-    let wrote = c.write-in-Stops.ensures.state ∙ ap (λ s. written c.args.at c.args.bytes.now s) (ap state_of c.in-Stops.ensures.same) in
-    let done = ap state_of c.fault-in-Stops.ensures.same ∙ wrote in (
-      state_of c.fault-in-Stops.new.self,
+    let done = ap state_of c.fault-in-Some-Stop.ensures.same ∙ c.write-in-Some-Stop.ensures.state in (
+      state_of c.fault-in-Some-Stop.new.self,
       refl,
       inr (
         patched c.args.at c.args.bytes.now before.seen,

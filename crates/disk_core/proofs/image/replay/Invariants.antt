@@ -1,7 +1,7 @@
 use Rattle.std.proofs.Common.{◌≡◌, ◌≤◌, length, drop}
 use Rattle.disk_core.specs.History.{total, changes}
 use Rattle.disk_core.specs.Images.{image_steps}
-use Rattle.disk_core.proofs.memory.replay.Given as goal
+use Rattle.disk_core.proofs.image.replay.Given as goal
 
 abbrev pub invariant-loop-call : goal.invariant-loop-call
 invariant-loop-call l = record {
