@@ -1,0 +1,80 @@
+ghost use Rattle.std.specs.Prelude.{◌≡◌, ℤ, ◌≤ℤ◌, ◌↔◌, ◌&&◌, ◌||◌, not, true, [], IfOk, IsTrue, FitsSigned};
+ghost use Rattle.std.specs.Int.{w64};
+ghost use Rattle.part_rules.specs.KeySets.{has_key, is_within, IsNormal};
+
+use crate::merging::{ALL_KEYS, gaps, joined};
+use sql_values::Interval;
+use std::alloc::{AllocError, Global};
+use std::marker::Model;
+
+/// A set of keys, as the intervals that hold them.
+///
+/// The intervals rise, and between one and the next a key is left out, so a set of keys has one list of intervals. Contracts see that list.
+#[derive(Debug, Drop)]
+pub struct Intervals {
+    list: Vec<Interval>,
+}
+
+impl Model for Intervals {
+    ghost use Rattle.std.specs.Prelude.{List};
+    ghost use Rattle.sql_values.specs.declared.places.Interval.{Interval};
+    ghost use Rattle.part_rules.specs.KeySets.{IsNormal};
+
+    ghost Value = { List Interval };
+
+    ghost view = { λ s. s.list.items };
+
+    ghost invariant = { λ s. IsNormal s.list.items };
+}
+
+impl Intervals {
+    /// No key. It takes no memory.
+    pub fn none(alloc: Global) -> Intervals
+        ensures { result ≡ [] }
+    {
+        Intervals {
+            list: Vec::new(alloc),
+        }
+    }
+
+    /// Each key of a BIGINT.
+    pub fn whole(alloc: Global) -> Result<Intervals, AllocError>
+        ensures { IfOk result (λ keys. (key : ℤ) → FitsSigned w64 key → has_key keys key ≡ true) }
+    {
+        Intervals::of_interval(alloc, ALL_KEYS)
+    }
+
+    /// The keys of one interval; none where it ends before it begins.
+    pub fn of_interval(alloc: Global, interval: Interval) -> Result<Intervals, AllocError>
+        ensures { IfOk result (λ keys. (key : ℤ) → has_key keys key ≡ is_within key interval) }
+    {
+        let mut list = Vec::new(alloc);
+        if interval.low <= interval.high {
+            list.push(interval)?;
+        }
+        Ok(Intervals { list })
+    }
+
+    /// The intervals, rising.
+    pub fn as_slice(&self) -> &[Interval]
+        ensures all { result.now ≡ self.now }
+        ensures normal { IsNormal self.now }
+    {
+        self.list.as_slice()
+    }
+
+    /// Whether there is no key.
+    pub fn is_empty(&self) -> bool
+        ensures { IsTrue result ↔ (self.now ≡ []) }
+    {
+        self.list.is_empty()
+    }
+
+    /// The keys of a BIGINT that aren't in the set. The cost is linear.
+    pub fn complement(&self, alloc: Global) -> Result<Intervals, AllocError>
+        ensures { IfOk result (λ keys. (key : ℤ) → FitsSigned w64 key → has_key keys key ≡ not (has_key self.now key)) }
+    {
+        let list = gaps(alloc, &self.list)?;
+        Ok(Intervals { list })
+    }
+}
