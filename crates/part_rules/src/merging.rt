@@ -1,7 +1,7 @@
 ghost use Rattle.std.specs.Prelude.{◌≡◌, ℤ, pos, ◌+ℤ◌, ◌≤ℤ◌, ◌∷◌, IfOk, OnOk, IfSome, IfNone, FitsSigned, not, ◌||◌};
 ghost use Rattle.std.specs.Int.{w64};
 ghost use Rattle.part_rules.specs.KeySets.{has_key, is_within, IsNormal};
-ghost use Rattle.part_rules.specs.Merging.{Ascends, with_gap};
+ghost use Rattle.part_rules.specs.Merging.{Ascends, IsAscending, with_gap};
 
 use sql_values::Interval;
 use std::alloc::{AllocError, Global};
@@ -33,8 +33,18 @@ fn united(current: &Interval, next: &Interval) -> Option<Interval>
     Some(*current)
 }
 
-/// The same keys with intervals that meet or are neighbours made one.
-pub(crate) fn joined(
+/// The intervals that have a key, by their beginnings.
+fn ascending(mut list: Vec<Interval>) -> Result<Vec<Interval>, AllocError>
+    ensures ascending { IfOk result (λ sorted. IsAscending sorted.items) }
+    ensures keys { IfOk result (λ sorted. (key : ℤ) → has_key sorted.items key ≡ has_key list.items key) }
+{
+    list.retain(|interval| interval.low <= interval.high);
+    list.sort_by_key(|interval| interval.low)?;
+    Ok(list)
+}
+
+/// Intervals that meet or are neighbours made one.
+fn joined_from(
     alloc: Global,
     first: &Interval,
     others: &[Interval],
@@ -56,6 +66,18 @@ pub(crate) fn joined(
     }
     list.push(current)?;
     Ok(list)
+}
+
+/// The same keys in normal form. It sorts by a method for which runs that rise already are cheap: joining two such runs is linear.
+pub(crate) fn joined(list: Vec<Interval>) -> Result<Vec<Interval>, AllocError>
+    ensures normal { IfOk result (λ joined. IsNormal joined.items) }
+    ensures keys { IfOk result (λ joined. (key : ℤ) → has_key joined.items key ≡ has_key list.items key) }
+{
+    let sorted = ascending(list)?;
+    match sorted.as_slice() {
+        [first, others @ ..] => joined_from(*sorted.allocator(), first, others),
+        [] => Ok(sorted),
+    }
 }
 
 /// Adds the keys from the first of `rest` up to before an interval, where there are any.

@@ -2,7 +2,7 @@ use Rattle.std.proofs.Common.{ℤ, pos, ◌≤ℤ◌, ◌+ℤ◌, length, drop, 
 use Rattle.std.proofs.lemmas.Int.{ints}
 use Rattle.part_rules.specs.Merging.{Ascends}
 use Rattle.part_rules.proofs.KeyLists.{Ascends-step, Ascends-earlier, RisesTo-push, RisesTo-later, IsNormal-of, joined-united, joined-apart, no_interval}
-use Rattle.part_rules.proofs.merging.joined.Goals as goal
+use Rattle.part_rules.proofs.merging.joined_from.Goals as goal
 
 pub loop-next-preserved-in-Some : goal.loop-next-preserved-in-Some
 loop-next-preserved-in-Some c =

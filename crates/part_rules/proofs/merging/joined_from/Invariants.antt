@@ -2,7 +2,7 @@ use Rattle.std.proofs.Common.{◌≡◌, ℤ, ◌≤ℤ◌, ◌∷◌, ◌++◌,
 use Rattle.part_rules.specs.KeySets.{has_key}
 use Rattle.part_rules.specs.Merging.{Ascends}
 use Rattle.part_rules.proofs.KeyLists.{RisesTo}
-use Rattle.part_rules.proofs.merging.joined.Given as goal
+use Rattle.part_rules.proofs.merging.joined_from.Given as goal
 
 abbrev pub invariant-loop-next : goal.invariant-loop-next
 invariant-loop-next l = record {
