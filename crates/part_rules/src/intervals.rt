@@ -3,6 +3,7 @@ ghost use Rattle.std.specs.Int.{w64};
 ghost use Rattle.part_rules.specs.KeySets.{has_key, is_within, IsNormal};
 
 use crate::merging::{ALL_KEYS, gaps, joined};
+use list_types::Listed;
 use sql_values::Interval;
 use std::alloc::{AllocError, Global};
 use std::marker::Model;
@@ -10,9 +11,9 @@ use std::marker::Model;
 /// A set of keys, as the intervals that hold them.
 ///
 /// The intervals rise, and between one and the next a key is left out, so a set of keys has one list of intervals. Contracts see that list.
-#[derive(Debug, Drop)]
+#[derive(Clone, Debug, PartialEq, Eq, Drop)]
 pub struct Intervals {
-    list: Vec<Interval>,
+    list: Listed<Interval>,
 }
 
 impl Model for Intervals {
@@ -22,9 +23,11 @@ impl Model for Intervals {
 
     ghost Value = { List Interval };
 
-    ghost view = { λ s. s.list.items };
+    ghost view = { λ s. s.list };
 
-    ghost invariant = { λ s. IsNormal s.list.items };
+    ghost invariant = { λ s. IsNormal s.list };
+
+    ghost inverse = { λ l. record { list = l } };
 }
 
 impl Intervals {
@@ -33,7 +36,7 @@ impl Intervals {
         ensures { result ≡ [] }
     {
         Intervals {
-            list: Vec::new(alloc),
+            list: Listed::new(alloc),
         }
     }
 
@@ -41,17 +44,25 @@ impl Intervals {
     pub fn whole(alloc: Global) -> Result<Intervals, AllocError>
         ensures { IfOk result (λ keys. (key : ℤ) → FitsSigned w64 key → has_key keys key ≡ true) }
     {
-        Intervals::of_interval(alloc, ALL_KEYS)
+        Intervals::of_interval(alloc, &ALL_KEYS)
     }
 
     /// The keys of one interval; none where it ends before it begins.
-    pub fn of_interval(alloc: Global, interval: Interval) -> Result<Intervals, AllocError>
-        ensures { IfOk result (λ keys. (key : ℤ) → has_key keys key ≡ is_within key interval) }
+    pub fn of_interval(alloc: Global, interval: &Interval) -> Result<Intervals, AllocError>
+        ensures { IfOk result (λ keys. (key : ℤ) → has_key keys key ≡ is_within key interval.now) }
     {
-        let mut list = Vec::new(alloc);
+        let mut list = Listed::new(alloc);
         if interval.low <= interval.high {
-            list.push(interval)?;
+            list.push(*interval)?;
         }
+        Ok(Intervals { list })
+    }
+
+    /// The keys of these intervals, which may stand in any order, meet, and be empty. The cost is that of sorting them; runs that rise already are cheap.
+    pub fn from_vec(list: Vec<Interval>) -> Result<Intervals, AllocError>
+        ensures { IfOk result (λ keys. (key : ℤ) → has_key keys key ≡ has_key list.items key) }
+    {
+        let list = Listed::from_vec(joined(list)?);
         Ok(Intervals { list })
     }
 
@@ -74,7 +85,25 @@ impl Intervals {
     pub fn complement(&self, alloc: Global) -> Result<Intervals, AllocError>
         ensures { IfOk result (λ keys. (key : ℤ) → FitsSigned w64 key → has_key keys key ≡ not (has_key self.now key)) }
     {
-        let list = gaps(alloc, &self.list)?;
+        let list = Listed::from_vec(gaps(alloc, self.as_slice())?);
         Ok(Intervals { list })
+    }
+
+    /// The keys that are in one of the sets. The cost is linear.
+    pub fn join(&self, alloc: Global, other: &Intervals) -> Result<Intervals, AllocError>
+        ensures { IfOk result (λ keys. (key : ℤ) → has_key keys key ≡ (has_key self.now key || has_key other.now key)) }
+    {
+        let mut list = Vec::from_slice(alloc, self.as_slice())?;
+        list.extend_from_slice(other.as_slice())?;
+        Intervals::from_vec(list)
+    }
+
+    /// The keys that are in both sets: those that are in neither one's complement. The cost is linear.
+    pub fn meet(&self, alloc: Global, other: &Intervals) -> Result<Intervals, AllocError>
+        ensures { IfOk result (λ keys. (key : ℤ) → FitsSigned w64 key → has_key keys key ≡ (has_key self.now key && has_key other.now key)) }
+    {
+        let left = self.complement(alloc)?;
+        let right = other.complement(alloc)?;
+        left.join(alloc, &right)?.complement(alloc)
     }
 }
