@@ -5,19 +5,28 @@
 //! [`Cond`] is a condition on rows, as in WHERE, and [`Expr`] an expression, as UPDATE sets a column to.
 #![tactic(auto)]
 
+mod checks;
+mod columns;
+mod conditions;
+mod expressions;
 mod literal;
 mod name;
 mod places;
+mod storage;
 mod table;
 mod tree;
 mod value;
 
+pub use checks::CheckFault;
+pub use conditions::holds;
+pub use expressions::ValueFault;
 pub use list_types::{Bytes, Text};
 pub use literal::{Literal, Literals};
 pub use name::{LONGEST_NAME, Name, is_name_text};
 pub use places::{
     Interval, Keys, LinkNo, LockMode, PartNo, PartNos, ServerNo, ServerNos, TableNo, Xid, Xids,
 };
+pub use storage::StoreFault;
 pub use table::{ColumnDef, ColumnDefs, Kind, TableDef, TableDefs};
 pub use tree::{Addend, ColumnName, Comparison, Cond, Expr, Operand};
 pub use value::{Row, Rows, Value};
