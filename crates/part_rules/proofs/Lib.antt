@@ -1,3 +1,4 @@
 pub mod Ascending
 pub mod Gaps
 pub mod KeyLists
+pub mod OneList

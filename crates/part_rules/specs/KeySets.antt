@@ -1,4 +1,5 @@
-use Rattle.std.specs.Prelude.{ℤ, pos, ◌+ℤ◌, ◌≤ℤ◌, Bool, ◌&&◌, List, [], ◌∷◌, int_le}
+use Rattle.std.specs.Prelude.{◌≡◌, FitsSigned, ℤ, pos, ◌+ℤ◌, ◌≤ℤ◌, Bool, ◌&&◌, List, [], ◌∷◌, int_le}
+use Rattle.std.specs.Int.{w64}
 use Rattle.std.specs.List.{list_any}
 use Rattle.sql_values.specs.declared.places.Interval.{Interval}
 
@@ -19,3 +20,12 @@ RisesFrom low (i ∷ is) = (low ≤ℤ i.low) × (i.low ≤ℤ i.high) × RisesF
 abbrev pub IsNormal : List Interval → Type 0
 IsNormal [] = Unit {0}
 IsNormal (i ∷ is) = RisesFrom i.low (i ∷ is)
+
+-- both ends of each interval are keys of a BIGINT
+abbrev pub AreBigInts : List Interval → Type 0
+AreBigInts [] = Unit {0}
+AreBigInts (i ∷ is) = FitsSigned w64 i.low × FitsSigned w64 i.high × AreBigInts is
+
+-- the sets have the same keys of a BIGINT
+abbrev pub HaveSameKeys : List Interval → List Interval → Type 0
+HaveSameKeys a b = (key : ℤ) → FitsSigned w64 key → has_key a key ≡ has_key b key

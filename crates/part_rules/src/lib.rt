@@ -2,6 +2,7 @@
 #![tactic(auto)]
 
 mod intervals;
+pub mod laws;
 mod merging;
 
 pub use intervals::Intervals;
