@@ -1,4 +1,7 @@
 pub mod Ascending
 pub mod Gaps
 pub mod KeyLists
+pub mod ListParts
 pub mod OneList
+pub mod Positions
+pub mod RangeParts

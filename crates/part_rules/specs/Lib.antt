@@ -1,2 +1,4 @@
 pub mod KeySets
 pub mod Merging
+pub mod Placing
+pub mod Rules

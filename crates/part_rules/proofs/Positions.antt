@@ -1,0 +1,70 @@
+-- The place of the first element that passes a test.
+use Rattle.std.proofs.Common.{length-append, add-zero, subst, inl, inr, ◌≡◌, ℕ, suc, zero, ◌+◌, ◌<◌, ◌≤◌, Bool, true, false, not, cond, List, [], ◌∷◌, ◌++◌, length, take, get_or, Some, None, Option, refl, arith, ap, sym, ◌∙◌, eqb, ltb}
+use Rattle.std.specs.Prelude.{nat_lt}
+use Rattle.std.specs.List.{position, position_or_len, prefix_len}
+use Rattle.std.specs.List.Sorted.{IsPartitionPoint}
+use Rattle.std.specs.Option.{option_or}
+use Rattle.std.proofs.lemmas.Bool.{lt-ltb, le-ltb, ltb-true, ltb-false, eqb-true, eqb-false, cond-true, cond-false, eq-eqb, ne_eqb, cases_lt}
+use Rattle.std.proofs.lemmas.List.{take_more, length-take}
+use Rattle.std.proofs.lemmas.List.Folds.{position_or_len_push}
+use Rattle.std.proofs.lemmas.List.Sums.{prefix_len-le-length}
+use Rattle.std.proofs.lemmas.Grind.{common_steps}
+
+-- where all before a place fail and that at the place passes, it is the place
+position_or_len_is : {X : Type 0} (p : X → Bool) (xs : List X) (i : ℕ) → i ≤ length xs → ((k : ℕ) (d : X) → k < i → p (get_or xs k d) ≡ false) → ((d : X) → i < length xs → p (get_or xs i d) ≡ true) → position_or_len p xs ≡ i
+position_or_len_is p [] zero within before here = refl
+position_or_len_is p [] (suc i) within before here = absurd (omega arith)
+position_or_len_is p (x ∷ xs) zero within before here = let yes_here : p x ≡ true = here x (omega arith) in rw yes_here refl
+position_or_len_is p (x ∷ xs) (suc i) within before here =
+    let fails : p x ≡ false = before 0 x (omega arith) in
+    let rest : position_or_len p xs ≡ i = position_or_len_is p xs i (omega arith) (λ k d l. before (suc k) d (omega arith)) (λ d l. here d (omega arith)) in
+    rw fails (grind (arith, rest))
+
+-- what a binary search for the first that passes tells
+pub position_of_point : {X : Type 0} (p : X → Bool) (xs : List X) (i : ℕ) → i ≤ length xs → IsPartitionPoint (λ y. not (p y) ≡ true) (λ y. not (p y) ≡ false) xs i → position_or_len p xs ≡ i
+position_of_point p xs i within point =
+    position_or_len_is p xs i within
+    (λ k d l. grind (arith, point.0 k d (omega arith) l))
+    (λ d l. grind (arith, point.1 i d (omega arith) l))
+
+pub position-here : {X : Type 0} (p : X → Bool) (xs : List X) (i : ℕ) → position_or_len p xs ≡ i → i < length xs → position p xs ≡ Some i
+position-here p xs i is_place within =
+    let test : nat_lt (position_or_len p xs) (length xs) ≡ true = lt-ltb (position_or_len p xs) (length xs) (omega arith) in
+    cond-true (nat_lt (position_or_len p xs) (length xs)) (Some (position_or_len p xs)) None test ∙ ap (λ (k : ℕ). Some k) is_place
+
+pub position-nowhere : {X : Type 0} (p : X → Bool) (xs : List X) → length xs ≤ position_or_len p xs → position p xs ≡ None
+position-nowhere p xs past =
+    let test : nat_lt (position_or_len p xs) (length xs) ≡ false = le-ltb (position_or_len p xs) (length xs) past in
+    cond-false (nat_lt (position_or_len p xs) (length xs)) (Some (position_or_len p xs)) None test
+
+-- the place of the first in a list and one more element, by the place in the list
+push_place : (m n : ℕ) (b : Bool) → m ≤ n → cond (nat_lt (cond (eqb m n) (n + cond b 0 1) m) (n + 1)) (Some (cond (eqb m n) (n + cond b 0 1) m)) None ≡ option_or (cond (nat_lt m n) (Some m) None) (cond b (Some n) None)
+push_place m n b within =
+    elim (cases_lt m n) [
+      inl before ↦
+        let apart : eqb m n ≡ false = ne_eqb m n (λ e. absurd (omega arith)) in
+        let first : nat_lt m n ≡ true = lt-ltb m n before in
+        let still : nat_lt m (n + 1) ≡ true = lt-ltb m (n + 1) (omega arith) in
+        rw (apart, first, still) refl
+      | inr past ↦
+        let same : m ≡ n = omega arith in
+        let equal : eqb m n ≡ true = eq-eqb m n same in
+        let none : nat_lt m n ≡ false = le-ltb m n past in
+        rw (equal, none) (last b)
+    ]
+  where
+    last : (b : Bool) → cond (nat_lt (n + cond b 0 1) (n + 1)) (Some (n + cond b 0 1)) None ≡ cond b (Some n) None
+    last true = let here : nat_lt (n + 0) (n + 1) ≡ true = lt-ltb (n + 0) (n + 1) (omega arith) in rw (here, add-zero n) refl
+    last false = let nowhere : nat_lt (n + 1) (n + 1) ≡ false = le-ltb (n + 1) (n + 1) (omega arith) in rw nowhere refl
+
+-- one element more
+pub position-push : {X : Type 0} (p : X → Bool) (xs : List X) (y : X) → position p (xs ++ y ∷ []) ≡ option_or (position p xs) (cond (p y) (Some (length xs)) None)
+position-push p xs y =
+    rw (position_or_len_push p xs y, length-append xs (y ∷ [])) (push_place (position_or_len p xs) (length xs) (p y) (prefix_len-le-length (λ x. not (p x)) xs))
+
+pub position-more : {X : Type 0} (p : X → Bool) (xs : List X) (i : ℕ) (d : X) → i < length xs → position p (take (i + 1) xs) ≡ option_or (position p (take i xs)) (cond (p (get_or xs i d)) (Some i) None)
+position-more p xs i d within =
+    let len : length (take i xs) ≡ i = grind (arith, common_steps) in
+    rw (take_more xs i d within)
+    (subst (λ (n : ℕ). position p (take i xs ++ get_or xs i d ∷ []) ≡ option_or (position p (take i xs)) (cond (p (get_or xs i d)) (Some n) None)) len
+      (position-push p (take i xs) (get_or xs i d)))
