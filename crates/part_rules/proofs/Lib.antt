@@ -4,4 +4,5 @@ pub mod KeyLists
 pub mod ListParts
 pub mod OneList
 pub mod Positions
+pub mod RangeMarks
 pub mod RangeParts

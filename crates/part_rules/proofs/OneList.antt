@@ -8,7 +8,7 @@ use Rattle.part_rules.specs.KeySets.{has_key, is_within, RisesFrom, IsNormal, Ar
 use Rattle.part_rules.proofs.KeyLists.{has_key-before, RisesFrom-earlier}
 
 -- a key of the first interval is in the set
-at_first : (x : Interval) (is : List Interval) (key : ℤ) → x.low ≤ℤ key → key ≤ℤ x.high → has_key (x ∷ is) key ≡ true
+pub at_first : (x : Interval) (is : List Interval) (key : ℤ) → x.low ≤ℤ key → key ≤ℤ x.high → has_key (x ∷ is) key ≡ true
 at_first x is key from to =
     let low : int_le x.low key ≡ true = grind (arith, ints) in
     let high : int_le key x.high ≡ true = grind (arith, ints) in

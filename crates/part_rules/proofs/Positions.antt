@@ -4,9 +4,10 @@ use Rattle.std.specs.Prelude.{nat_lt}
 use Rattle.std.specs.List.{position, position_or_len, prefix_len}
 use Rattle.std.specs.List.Sorted.{IsPartitionPoint}
 use Rattle.std.specs.Option.{option_or}
-use Rattle.std.proofs.lemmas.Bool.{lt-ltb, le-ltb, ltb-true, ltb-false, eqb-true, eqb-false, cond-true, cond-false, eq-eqb, ne_eqb, cases_lt}
+use Rattle.std.proofs.lemmas.Bool.{both_ways, lt-ltb, le-ltb, ltb-true, ltb-false, eqb-true, eqb-false, cond-true, cond-false, eq-eqb, ne_eqb, cases_lt}
 use Rattle.std.proofs.lemmas.List.{take_more, length-take}
 use Rattle.std.proofs.lemmas.List.Folds.{position_or_len_push}
+use Rattle.std.proofs.lemmas.List.Quantifiers.{position-Some}
 use Rattle.std.proofs.lemmas.List.Sums.{prefix_len-le-length}
 use Rattle.std.proofs.lemmas.Grind.{common_steps}
 
@@ -68,3 +69,28 @@ position-more p xs i d within =
     rw (take_more xs i d within)
     (subst (λ (n : ℕ). position p (take i xs ++ get_or xs i d ∷ []) ≡ option_or (position p (take i xs)) (cond (p (get_or xs i d)) (Some n) None)) len
       (position-push p (take i xs) (get_or xs i d)))
+
+-- the place in a list by its first element
+pub position-first : {X : Type 0} (p : X → Bool) (x : X) (xs : List X) → p x ≡ true → position p (x ∷ xs) ≡ Some 0
+position-first p x xs passes = position-here p (x ∷ xs) 0 (rw passes refl) (omega arith)
+
+pub position-behind : {X : Type 0} (p : X → Bool) (x : X) (xs : List X) (i : ℕ) → p x ≡ false → position p xs ≡ Some i → position p (x ∷ xs) ≡ Some (suc i)
+position-behind {X} p x xs i fails found =
+    let at = position-Some p xs i x found in
+    position-here p (x ∷ xs) (suc i)
+    (position_or_len_is p (x ∷ xs) (suc i) (omega (arith, at.0)) (λ k d l. earlier k d l) (λ d l. there d))
+    (omega (arith, at.0))
+  where
+    earlier : (k : ℕ) (d : X) → k < suc i → p (get_or (x ∷ xs) k d) ≡ false
+    earlier zero d l = fails
+    earlier (suc k) d l = (position-Some p xs i d found).2 k (omega arith)
+    there : (d : X) → p (get_or xs i d) ≡ true
+    there d = (position-Some p xs i d found).1
+
+pub position-behind_of : {X : Type 0} (p : X → Bool) (x : X) (xs : List X) (i : ℕ) → p x ≡ false → position p (x ∷ xs) ≡ Some i → (j : ℕ) × (i ≡ suc j) × (position p xs ≡ Some j)
+position-behind_of p x xs zero fails found =
+    let passes : p x ≡ true = (position-Some p (x ∷ xs) zero x found).1 in
+    absurd (both_ways (p x) fails passes)
+position-behind_of p x xs (suc j) fails found =
+    let at = position-Some p (x ∷ xs) (suc j) x found in
+    (j, refl, position-here p xs j (position_or_len_is p xs j (omega (arith, at.0)) (λ k d l. (position-Some p (x ∷ xs) (suc j) d found).2 (suc k) (omega arith)) (λ d l. (position-Some p (x ∷ xs) (suc j) d found).1)) (omega (arith, at.0)))

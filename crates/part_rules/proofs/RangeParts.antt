@@ -8,13 +8,13 @@ use Rattle.part_rules.specs.declared.bounds.Bound.TheVariants.{Below, MaxValue}
 use Rattle.part_rules.specs.Rules.{is_below, is_lower, rises_above, rises}
 
 -- a key below a bound is below each higher one
-below_higher : (key : ℤ) (low high : Bound) → is_lower low high ≡ true → is_below key low ≡ true → is_below key high ≡ true
+pub below_higher : (key : ℤ) (low high : Bound) → is_lower low high ≡ true → is_below key low ≡ true → is_below key high ≡ true
 below_higher key (Below m) (Below n) lower below = grind (arith, ints)
 below_higher key (Below m) MaxValue lower below = refl
 below_higher key MaxValue high lower below = grind arith
 
 -- the bounds behind one that rise from it
-rises_behind : (low : Bound) (bs : List Bound) → rises_above low bs ≡ true → rises bs ≡ true
+pub rises_behind : (low : Bound) (bs : List Bound) → rises_above low bs ≡ true → rises bs ≡ true
 rises_behind low [] rising = refl
 rises_behind low (b ∷ bs) rising = (and_parts (is_lower low b) (rises_above b bs) rising).1
 

@@ -1,4 +1,6 @@
 pub mod KeySets
+pub mod Marking
 pub mod Merging
 pub mod Placing
+pub mod Pruned
 pub mod Rules

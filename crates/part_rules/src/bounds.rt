@@ -34,7 +34,7 @@ impl Model for Bounds {
     ghost inverse = { λ l. record { list = l } };
 }
 
-fn lies_below(key: &i64, bound: &Bound) -> bool
+pub(crate) fn lies_below(key: &i64, bound: &Bound) -> bool
     ensures { result ≡ is_below key.now bound.now }
 {
     match bound {

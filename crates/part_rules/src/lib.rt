@@ -6,9 +6,11 @@ mod intervals;
 pub mod laws;
 mod lists;
 mod merging;
+mod pruning;
 mod rule;
 
 pub use bounds::{Bound, Bounds};
 pub use intervals::Intervals;
 pub use lists::Lists;
+pub use pruning::prune;
 pub use rule::{Rule, part_of};

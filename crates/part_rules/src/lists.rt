@@ -1,11 +1,12 @@
-ghost use Rattle.std.specs.Prelude.{◌≡◌, ℤ, ◌<◌, ◌^◌, length, Some, None, IfOk, OnOk, if◌then◌else◌};
+ghost use Rattle.std.specs.Prelude.{◌≡◌, ℤ, ◌≤ℤ◌, ◌<◌, ◌^◌, length, Some, None, IfOk, OnOk, if◌then◌else◌};
 ghost use Rattle.std.specs.Option.{option_or};
 ghost use Rattle.std.specs.Ordering.{int_cmp};
 ghost use Rattle.std.specs.BTreeMap.{get};
+ghost use Rattle.part_rules.specs.Marking.{Marks};
 ghost use Rattle.part_rules.specs.Rules.{lists_key, list_part, IsIndex};
 
 use list_types::Listed;
-use sql_values::{Keys, PartNo};
+use sql_values::{Interval, Keys, PartNo};
 use std::alloc::{AllocError, Global};
 use std::collections::BTreeMap;
 use std::marker::Model;
@@ -70,5 +71,16 @@ impl Lists {
         ensures { result ≡ list_part self.now key.now }
     {
         self.places.get(key).copied()
+    }
+
+    /// Marks the partitions of an interval's keys. The cost is that of a search in the index, and of the listed keys that it has.
+    pub(crate) fn mark(&self, interval: &Interval, marks: &mut [bool])
+        requires filled { interval.now.low ≤ℤ interval.now.high }
+        requires parts { length marks.old ≡ length self.now }
+        ensures { Marks (list_part self.now) interval.now marks.old marks.new }
+    {
+        for (_, part) in self.places.range(interval.low..=interval.high) {
+            marks[*part as usize] = true;
+        }
     }
 }
