@@ -1,7 +1,9 @@
 pub mod Ascending
 pub mod Gaps
 pub mod KeyLists
+pub mod ListMarks
 pub mod ListParts
+pub mod Marks
 pub mod OneList
 pub mod Positions
 pub mod RangeMarks
