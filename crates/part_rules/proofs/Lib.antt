@@ -1,5 +1,6 @@
 pub mod Ascending
 pub mod Gaps
+pub mod HashMarks
 pub mod KeyLists
 pub mod ListMarks
 pub mod ListParts

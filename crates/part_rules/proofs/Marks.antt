@@ -1,9 +1,9 @@
 -- Marks of partitions: what one more key, or one more interval, does to them.
-use Rattle.std.proofs.Common.{◌≡◌, ℕ, suc, zero, ◌+◌, ◌<◌, ◌≤◌, ℤ, pos, ◌+ℤ◌, ◌≤ℤ◌, ◌<ℤ◌, Bool, true, false, not, ◌||◌, ◌&&◌, List, [], ◌∷◌, ◌++◌, length, take, set, get_or, Some, None, Option, refl, arith, ◌⊎◌, inl, inr, sym, ◌∙◌, subst, replicate}
+use Rattle.std.proofs.Common.{◌≡◌, ℕ, suc, zero, ◌+◌, ◌<◌, ◌≤◌, ℤ, pos, ◌+ℤ◌, ◌≤ℤ◌, ◌<ℤ◌, Bool, true, false, not, ◌||◌, ◌&&◌, List, [], ◌∷◌, ◌++◌, length, take, drop, set, get_or, Some, None, Option, refl, arith, ◌⊎◌, inl, inr, sym, ◌∙◌, subst, replicate}
 use Rattle.std.specs.Prelude.{int_le}
 use Rattle.std.proofs.lemmas.Bool.{both_ways, or_cases, or_left, or_right}
 use Rattle.std.proofs.lemmas.Int.{ints, by_lt_z}
-use Rattle.std.proofs.lemmas.List.{take_more, take_all, get_or-set_same, get_or-set_other}
+use Rattle.std.proofs.lemmas.List.{take_more, take_all, drop_all, append-nil}
 use Rattle.std.proofs.lemmas.List.Folds.{list_any-append}
 use Rattle.sql_values.specs.declared.places.Interval.{Interval}
 use Rattle.part_rules.specs.KeySets.{has_key, is_within}
@@ -57,7 +57,7 @@ MarksBelow-none place i next old new start same = record {
   all = λ key p from before found. absurd (omega (arith, ints))
 }
 
-within_from : (key : ℤ) (i : Interval) → i.low ≤ℤ key → key ≤ℤ i.high → is_within key i ≡ true
+pub within_from : (key : ℤ) (i : Interval) → i.low ≤ℤ key → key ≤ℤ i.high → is_within key i ≡ true
 within_from key i from to =
     let low : int_le i.low key ≡ true = grind (arith, ints) in
     let high : int_le key i.high ≡ true = grind (arith, ints) in
@@ -128,3 +128,16 @@ AreMarks-more place keys i d old new within are marks = record {
 
 pub AreMarks-whole : (place : ℤ → Option ℕ) (keys : List Interval) (i : ℕ) (marks : List Bool) → length keys ≤ i → AreMarks place (take i keys) marks → AreMarks place keys marks
 AreMarks-whole place keys i marks end are = subst (λ (ks : List Interval). AreMarks place ks marks) (take_all i keys end) are
+
+-- what a call on all marks leaves
+pub marks_left : (n : ℕ) (old new : List Bool) → n ≡ length old → length new ≡ length old → take n (new ++ drop (length new) old) ≡ new
+marks_left n old new len same =
+    rw (drop_all (length new) old (omega (arith, same)), append-nil new) (take_all n new (omega (arith, len, same)))
+
+-- a step of a loop that marks the partitions of each interval
+pub Stepped-more : (place : ℤ → Option ℕ) (keys : List Interval) (i n : ℕ) (d : Interval) (items lent new : List Bool) → i < length keys → AreMarks place (take i keys) items → lent ≡ items → Marks place (get_or keys i d) lent new → n ≡ length items → length new ≡ length items → AreMarks place (take (i + 1) keys) (take n (new ++ drop (length new) items))
+Stepped-more place keys i n d items lent new within are same marks len same_len =
+    rw (marks_left n items new len same_len) (AreMarks-more place keys i d items new within are (rw same at marks))
+
+pub Stepped-count : (n count : ℕ) (items new : List Bool) → n ≡ length items → length new ≡ length items → length items ≡ count → length (take n (new ++ drop (length new) items)) ≡ count
+Stepped-count n count items new len same is_count = rw (marks_left n items new len same) (same ∙ is_count)

@@ -1,9 +1,10 @@
 -- By RANGE: the marks are those of the partitions of the set's keys.
-use Rattle.std.proofs.Common.{◌≡◌, ℕ, suc, zero, ◌+◌, ◌<◌, ◌≤◌, ℤ, pos, ◌+ℤ◌, ◌≤ℤ◌, ◌<ℤ◌, Bool, true, false, not, ◌||◌, ◌&&◌, cond, List, [], ◌∷◌, length, drop, get_or, Some, None, refl, arith, inl, inr, sym, ◌∙◌, subst}
+use Rattle.std.proofs.Common.{◌≡◌, ℕ, suc, zero, ◌+◌, ◌<◌, ◌≤◌, ℤ, pos, ◌+ℤ◌, ◌≤ℤ◌, ◌<ℤ◌, Bool, true, false, not, ◌||◌, ◌&&◌, cond, List, [], ◌∷◌, ◌++◌, length, drop, get_or, Some, None, refl, arith, inl, inr, sym, ◌∙◌, subst}
 use Rattle.std.specs.Prelude.{int_lt, int_le}
 use Rattle.std.specs.List.Sorted.{IsPartitionedBy, IsPartitionPoint}
 use Rattle.std.proofs.lemmas.Bool.{and_parts, cases_Bool, both_ways, cond-true, cond-false, or_cases}
 use Rattle.std.proofs.lemmas.Int.{ints, by_lt_z}
+use Rattle.std.proofs.lemmas.List.{drop_all, append-nil}
 use Rattle.std.proofs.lemmas.List.Quantifiers.{position-Some}
 use Rattle.sql_values.specs.declared.places.Interval.{Interval}
 use Rattle.part_rules.specs.declared.bounds.Bound.{Bound}
@@ -174,3 +175,9 @@ AreMarks-range bounds keys rising normal =
       owners = λ p mark. owned from.0 bounds keys p rising from.1 mark;
       all = λ key p there place. all_marked from.0 bounds keys key p rising from.1 there place
     }
+
+-- after the last bound
+pub all_read : (marks all : List Bool) (bs : List Bound) (i : ℕ) (rest : List Interval) → length bs ≤ i → marks ++ range_marks (drop i bs) rest ≡ all → marks ≡ all
+all_read marks all bs i rest end whole =
+    let read : marks ++ [] ≡ all = rw (drop_all i bs end) at whole in
+    sym (append-nil marks) ∙ read

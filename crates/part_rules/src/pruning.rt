@@ -2,7 +2,7 @@ ghost use Rattle.std.specs.Prelude.{◌≡◌, ◌+◌, ◌<◌, ◌≤◌, ◌^
 ghost use Rattle.part_rules.specs.Rules.{hash_part, range_part, list_part};
 ghost use Rattle.part_rules.specs.KeySets.{IsNormal};
 ghost use Rattle.part_rules.specs.Placing.{IsRule};
-ghost use Rattle.part_rules.specs.Marking.{Marks, AreMarks, begins_below as begins, behind as behind_of, range_marks as range, marked_from};
+ghost use Rattle.part_rules.specs.Marking.{Marks, AreMarks, begins_below as begins, behind as behind_of, marked_from};
 ghost use Rattle.part_rules.specs.Pruned.{IsPruned};
 
 use crate::bounds::{Bound, Bounds, lies_below};
@@ -39,7 +39,7 @@ fn range_marks(
     keys: &[Interval],
 ) -> Result<Vec<bool>, AllocError>
     requires { IsNormal keys.now }
-    ensures { IfOk result (λ marks. marks.items ≡ range bounds.now keys.now) }
+    ensures { IfOk result (λ marks. AreMarks (range_part bounds.now) keys.now marks.items) }
 {
     let mut marks = Vec::new(alloc);
     let mut rest = keys;
@@ -82,7 +82,8 @@ fn hash_marks(alloc: Global, parts: u32, keys: &[Interval]) -> Result<Vec<bool>,
     let mut marks = vec![in alloc; false; parts as usize]?;
     for interval in keys {
         if interval.high.abs_diff(interval.low) >= 2 * u64::from(parts - 1) {
-            return vec![in alloc; true; parts as usize];
+            let all = vec![in alloc; true; parts as usize]?;
+            return Ok(all);
         }
         mark_hashes(&mut marks, parts, interval);
     }
