@@ -4,6 +4,7 @@ pub mod HashMarks
 pub mod KeyLists
 pub mod ListMarks
 pub mod ListParts
+pub mod MarkedParts
 pub mod Marks
 pub mod OneList
 pub mod Positions

@@ -20,10 +20,10 @@ use Rattle.part_rules.specs.Marking.{IsMarked, Marks}
 use Rattle.part_rules.specs.Rules.{list_part, lists_key, IsIndex}
 use Rattle.part_rules.proofs.Marks.{mark_stays, mark_new, mark_set}
 
-first_in : {X : Type 0} (x : X) (xs : List X) → Contains (x ∷ xs) x
+pub first_in : {X : Type 0} (x : X) (xs : List X) → Contains (x ∷ xs) x
 first_in x xs = (0, omega arith, refl)
 
-later_in : {X : Type 0} (y x : X) (xs : List X) → Contains xs x → Contains (y ∷ xs) x
+pub later_in : {X : Type 0} (y x : X) (xs : List X) → Contains xs x → Contains (y ∷ xs) x
 later_in y x xs there = (suc there.0, omega (arith, there.1), there.2)
 
 -- an element that passes is kept

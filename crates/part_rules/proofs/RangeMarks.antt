@@ -181,3 +181,7 @@ pub all_read : (marks all : List Bool) (bs : List Bound) (i : ℕ) (rest : List 
 all_read marks all bs i rest end whole =
     let read : marks ++ [] ≡ all = rw (drop_all i bs end) at whole in
     sym (append-nil marks) ∙ read
+
+pub length-range_marks : (bs : List Bound) (is : List Interval) → length (range_marks bs is) ≡ length bs
+length-range_marks [] is = refl
+length-range_marks (b ∷ bs) is = let rest : length (range_marks bs (behind b is)) ≡ length bs = length-range_marks bs (behind b is) in omega (arith, rest)

@@ -1,7 +1,7 @@
 ghost use Rattle.std.specs.Prelude.{◌≡◌, ◌+◌, ◌<◌, ◌≤◌, ◌^◌, ◌≤ℤ◌, length, Some, None, IfOk};
 ghost use Rattle.part_rules.specs.Rules.{hash_part, range_part, list_part};
 ghost use Rattle.part_rules.specs.KeySets.{IsNormal};
-ghost use Rattle.part_rules.specs.Placing.{IsRule};
+ghost use Rattle.part_rules.specs.Placing.{part, part_count, IsRule};
 ghost use Rattle.part_rules.specs.Marking.{Marks, AreMarks, begins_below as begins, behind as behind_of, marked_from};
 ghost use Rattle.part_rules.specs.Pruned.{IsPruned};
 
@@ -39,7 +39,8 @@ fn range_marks(
     keys: &[Interval],
 ) -> Result<Vec<bool>, AllocError>
     requires { IsNormal keys.now }
-    ensures { IfOk result (λ marks. AreMarks (range_part bounds.now) keys.now marks.items) }
+    ensures marks { IfOk result (λ marks. AreMarks (range_part bounds.now) keys.now marks.items) }
+    ensures count { IfOk result (λ marks. length marks.items ≡ length bounds.now) }
 {
     let mut marks = Vec::new(alloc);
     let mut rest = keys;
@@ -53,7 +54,8 @@ fn range_marks(
 /// One search in the index an interval, and its keys that are listed.
 fn list_marks(alloc: Global, lists: &Lists, keys: &[Interval]) -> Result<Vec<bool>, AllocError>
     requires { IsNormal keys.now }
-    ensures { IfOk result (λ marks. AreMarks (list_part lists.now) keys.now marks.items) }
+    ensures marks { IfOk result (λ marks. AreMarks (list_part lists.now) keys.now marks.items) }
+    ensures count { IfOk result (λ marks. length marks.items ≡ length lists.now) }
 {
     let mut marks = vec![in alloc; false; lists.as_slice().len()]?;
     for interval in keys {
@@ -77,7 +79,8 @@ fn mark_hashes(marks: &mut [bool], parts: u32, interval: &Interval)
 fn hash_marks(alloc: Global, parts: u32, keys: &[Interval]) -> Result<Vec<bool>, AllocError>
     requires parts { 0 < parts }
     requires normal { IsNormal keys.now }
-    ensures { IfOk result (λ marks. AreMarks (λ key. Some (hash_part parts key)) keys.now marks.items) }
+    ensures marks { IfOk result (λ marks. AreMarks (λ key. Some (hash_part parts key)) keys.now marks.items) }
+    ensures count { IfOk result (λ marks. length marks.items ≡ parts) }
 {
     let mut marks = vec![in alloc; false; parts as usize]?;
     for interval in keys {
@@ -104,6 +107,24 @@ fn marked(alloc: Global, marks: &[bool]) -> Result<PartNos, AllocError>
     Ok(parts)
 }
 
+fn owners(alloc: Global, rule: &Rule, keys: &Intervals) -> Result<Vec<bool>, AllocError>
+    requires { IsRule rule.now }
+    ensures marks { IfOk result (λ marks. AreMarks (part rule.now) keys.now marks.items) }
+    ensures count { IfOk result (λ marks. length marks.items ≡ part_count rule.now) }
+{
+    let intervals = keys.as_slice();
+    match rule {
+        Rule::Whole => {
+            let mut marks = Vec::new(alloc);
+            marks.push(!keys.is_empty())?;
+            Ok(marks)
+        }
+        Rule::Range(bounds) => range_marks(alloc, bounds, intervals),
+        Rule::List(lists) => list_marks(alloc, lists, intervals),
+        Rule::Hash(parts) => hash_marks(alloc, *parts, intervals),
+    }
+}
+
 /// Exactly the partitions that own a key of the set, in order.
 ///
 /// By RANGE the cost is that of one binary search a partition; by LIST, of one search an interval and its listed keys; by HASH, of a partition and of
@@ -112,12 +133,6 @@ pub fn prune(alloc: Global, rule: &Rule, keys: &Intervals) -> Result<PartNos, Al
     requires { IsRule rule.now }
     ensures { IfOk result (λ parts. IsPruned rule.now keys.now parts) }
 {
-    let intervals = keys.as_slice();
-    let marks = match rule {
-        Rule::Whole => vec![in alloc; !keys.is_empty()]?,
-        Rule::Range(bounds) => range_marks(alloc, bounds, intervals)?,
-        Rule::List(lists) => list_marks(alloc, lists, intervals)?,
-        Rule::Hash(parts) => hash_marks(alloc, *parts, intervals)?,
-    };
+    let marks = owners(alloc, rule, keys)?;
     marked(alloc, &marks)
 }

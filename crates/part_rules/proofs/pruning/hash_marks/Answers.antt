@@ -6,8 +6,8 @@ use Rattle.part_rules.proofs.Marks.{Stepped-more, Stepped-count, AreMarks-whole}
 use Rattle.part_rules.proofs.HashMarks.{filled_at, AreMarks-full, is_long}
 use Rattle.part_rules.proofs.pruning.hash_marks.Goals as goal
 
-pub returns-then-abs_diff-from : goal.returns-then-abs_diff-from
-returns-then-abs_diff-from c =
+pub returns-then-abs_diff-from-clause-marks : goal.returns-then-abs_diff-from-clause-marks
+returns-then-abs_diff-from-clause-marks c =
     let interval = get_or c.args.keys.now c.loop-interval.interval-index no_interval in
     let low : SFits w64 interval.low = search rules in
     let high : SFits w64 interval.high = search rules in
@@ -29,5 +29,5 @@ loop-interval-preserved c =
       marks = Stepped-more _ c.args.keys.now c.loop-interval.interval-index c.loop-interval.marks.len no_interval c.loop-interval.marks.items _ c.mark_hashes.new.marks c.loop-interval-test.true c.loop-interval.invariant.marks c.deref_mut.ensures.value c.mark_hashes.ensures len same
     }
 
-pub returns : goal.returns
-returns c = AreMarks-whole _ c.args.keys.now c.loop-interval.interval-index c.loop-interval.marks.items c.loop-interval-test.false c.loop-interval.invariant.marks
+pub returns-clause-marks : goal.returns-clause-marks
+returns-clause-marks c = AreMarks-whole _ c.args.keys.now c.loop-interval.interval-index c.loop-interval.marks.items c.loop-interval-test.false c.loop-interval.invariant.marks
