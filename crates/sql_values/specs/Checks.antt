@@ -16,7 +16,7 @@ use Rattle.sql_values.specs.declared.tree.Cond.TheOpen.{All, Any, Not, Compare, 
 use Rattle.sql_values.specs.declared.tree.Expr.{Expr, Expr-F}
 use Rattle.sql_values.specs.declared.tree.Expr.TheFolds.{fold-Expr}
 use Rattle.sql_values.specs.declared.tree.Expr.TheOpen.{Literal, Column, Negated, Sum, Product}
-use Rattle.sql_values.specs.declared.tree.Addend.{Addend-F}
+use Rattle.sql_values.specs.declared.tree.Addend.{Addend, Addend-F, fold-Addend}
 use Rattle.sql_values.specs.Columns.{columns_meant, column_kind}
 use Rattle.sql_values.specs.Kinds.{literal_kind, are_comparable}
 
@@ -51,6 +51,10 @@ addend_columns part = part.expr
 abbrev pub expr_columns : Expr → List ColumnName
 expr_columns = fold-Expr (List ColumnName) (List ColumnName) expr_layer_columns addend_columns
 
+-- the columns that a part of a sum names
+abbrev pub columns_of_addend : Addend → List ColumnName
+columns_of_addend = fold-Addend (List ColumnName) (List ColumnName) expr_layer_columns addend_columns
+
 -- no column may be meant, or more than one
 abbrev pub is_unknown : List TableDef → ColumnName → Bool
 is_unknown tables name = length (columns_meant name tables) == 0
@@ -58,12 +62,17 @@ is_unknown tables name = length (columns_meant name tables) == 0
 abbrev pub is_ambiguous : List TableDef → ColumnName → Bool
 is_ambiguous tables name = nat_lt 1 (length (columns_meant name tables))
 
--- the first name that means no column; where each means one, the first that may mean several
+-- the first of these names that passes the test, without its qualifier
+unfoldable pub first_column : (ColumnName → Bool) → List ColumnName → Option (List ℕ)
+first_column test names = option_map (λ (name : ColumnName). name.column) (find test names)
+
+-- a column that no table has, or else one that several have
+abbrev pub named_fault : Option (List ℕ) → Option (List ℕ) → Option CheckFault
+named_fault unknown ambiguous = option_or (option_map NoColumn unknown) (option_map Ambiguous ambiguous)
+
+-- the first of these names that means no column; where each means one, the first that may mean several
 abbrev pub column_fault : List TableDef → List ColumnName → Option CheckFault
-column_fault tables names =
-    option_or
-    (option_map (λ (name : ColumnName). NoColumn name.column) (find (is_unknown tables) names))
-    (option_map (λ (name : ColumnName). Ambiguous name.column) (find (is_ambiguous tables) names))
+column_fault tables names = named_fault (first_column (is_unknown tables) names) (first_column (is_ambiguous tables) names)
 
 -- the fault of the columns; where they have none, what was found, or else a mismatch of types
 abbrev pub after_columns : {T : Type 0} → Option CheckFault → Option T → Result T CheckFault
@@ -110,6 +119,9 @@ addend_kind part = part.expr
 
 abbrev pub expr_kind : List TableDef → Expr → Option Kind
 expr_kind tables = fold-Expr (Option Kind) (Option Kind) (layer_kind tables) addend_kind
+
+abbrev pub kind_of_addend : List TableDef → Addend → Option Kind
+kind_of_addend tables = fold-Addend (Option Kind) (Option Kind) (layer_kind tables) addend_kind
 
 -- what `check_expr` answers
 abbrev pub checked_expr : Expr → TableDef → Result Kind CheckFault

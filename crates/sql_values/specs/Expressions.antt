@@ -7,7 +7,7 @@ use Rattle.sql_values.specs.declared.table.TableDef.{TableDef}
 use Rattle.sql_values.specs.declared.tree.Expr.{Expr, Expr-F}
 use Rattle.sql_values.specs.declared.tree.Expr.TheFolds.{fold-Expr}
 use Rattle.sql_values.specs.declared.tree.Expr.TheOpen.{Literal, Column, Negated, Sum, Product}
-use Rattle.sql_values.specs.declared.tree.Addend.{Addend-F}
+use Rattle.sql_values.specs.declared.tree.Addend.{Addend, Addend-F, fold-Addend}
 use Rattle.sql_values.specs.declared.value.Value.{Value}
 use Rattle.sql_values.specs.declared.value.Value.TheVariants.{Number, Text}
 use Rattle.sql_values.specs.Columns.{column_value}
@@ -58,3 +58,11 @@ addend_value part = (part.subtracted, option_map number_of part.expr)
 -- the value of an expression on a row of the table; none where a literal or a partial result isn't a BIGINT
 abbrev pub expr_value : TableDef → List Value → Expr → Option Value
 expr_value table row = fold-Expr (Option Value) (Bool × Option ℤ) (layer_value (table ∷ []) row) addend_value
+
+abbrev pub value_of_addend : TableDef → List Value → Addend → Bool × Option ℤ
+value_of_addend table row = fold-Addend (Option Value) (Bool × Option ℤ) (layer_value (table ∷ []) row) addend_value
+
+-- the text that a value is
+abbrev pub text_of : Value → Option (List ℕ)
+text_of (Number n) = None
+text_of (Text t) = Some t

@@ -13,7 +13,7 @@ use Rattle.sql_values.specs.Expressions.{is_big_int}
 
 -- a text of at most so many characters, and of at most 1,024 bytes
 abbrev pub is_within : ℕ → List ℕ → Bool
-is_within most t = nat_le (length (chars t)) most && nat_le (length t) 1024
+is_within most t = nat_le (length t) 1024 && nat_le (length (chars t)) most
 
 -- the value that a column of this kind holds after a literal was stored in it, or why it can't be
 abbrev pub stored : Literal → Kind → Result Value StoreFault

@@ -8,25 +8,31 @@
 mod checks;
 mod columns;
 mod conditions;
+mod copies;
 mod expressions;
+mod kinds;
 mod literal;
 mod name;
 mod places;
+mod sameness;
 mod storage;
 mod table;
 mod tree;
 mod value;
 
-pub use checks::CheckFault;
+pub use checks::{CheckFault, check_cond, check_expr};
 pub use conditions::holds;
-pub use expressions::ValueFault;
+pub use expressions::{ValueFault, eval};
 pub use list_types::{Bytes, Text};
 pub use literal::{Literal, Literals};
 pub use name::{LONGEST_NAME, Name, is_name_text};
 pub use places::{
     Interval, Keys, LinkNo, LockMode, PartNo, PartNos, ServerNo, ServerNos, TableNo, Xid, Xids,
 };
-pub use storage::StoreFault;
+pub use storage::{StoreFault, size, store};
 pub use table::{ColumnDef, ColumnDefs, Kind, TableDef, TableDefs};
 pub use tree::{Addend, ColumnName, Comparison, Cond, Expr, Operand};
 pub use value::{Row, Rows, Value};
+
+#[cfg(test)]
+mod tests;

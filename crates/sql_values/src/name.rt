@@ -3,7 +3,7 @@ ghost use Rattle.std.specs.List.{list_all};
 ghost use Rattle.sql_values.specs.Names.{IsName, is_name, begins_name as may_begin, continues_name as may_continue};
 
 use list_types::Text;
-use std::alloc::AllocError;
+use std::alloc::{AllocError, Global};
 use std::cmp::Ordering;
 use std::hash::{Hash, Hasher};
 use std::marker::Model;
@@ -79,6 +79,15 @@ impl Name {
         ensures { result.now ≡ self.now }
     {
         self.text.as_str()
+    }
+
+    /// A copy of this name.
+    pub fn copy(&self, alloc: Global) -> Result<Name, AllocError>
+        ensures { IfOk result (λ name. name ≡ self.now) }
+    {
+        Ok(Name {
+            text: Text::from_str(alloc, self.text.as_str())?,
+        })
     }
 
     /// Gives the text back. It takes no memory.
