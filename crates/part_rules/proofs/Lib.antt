@@ -2,6 +2,7 @@ pub mod Ascending
 pub mod Gaps
 pub mod HashMarks
 pub mod KeyLists
+pub mod KeyTests
 pub mod ListMarks
 pub mod ListParts
 pub mod MarkedParts

@@ -21,6 +21,10 @@ abbrev pub IsNormal : List Interval → Type 0
 IsNormal [] = Unit {0}
 IsNormal (i ∷ is) = RisesFrom i.low (i ∷ is)
 
+-- the set has exactly the keys of a BIGINT that pass the test
+abbrev pub AreKeys : List Interval → (ℤ → Bool) → Type 0
+AreKeys keys test = (key : ℤ) → FitsSigned w64 key → has_key keys key ≡ test key
+
 -- both ends of each interval are keys of a BIGINT
 abbrev pub AreBigInts : List Interval → Type 0
 AreBigInts [] = Unit {0}

@@ -1,3 +1,4 @@
+pub mod Keeps
 pub mod KeySets
 pub mod Marking
 pub mod Merging

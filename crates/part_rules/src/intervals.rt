@@ -1,6 +1,6 @@
 ghost use Rattle.std.specs.Prelude.{◌≡◌, ℤ, ◌≤ℤ◌, ◌↔◌, ◌&&◌, ◌||◌, not, true, [], IfOk, IsTrue, FitsSigned};
 ghost use Rattle.std.specs.Int.{w64};
-ghost use Rattle.part_rules.specs.KeySets.{has_key, is_within, IsNormal};
+ghost use Rattle.part_rules.specs.KeySets.{AreKeys, has_key, is_within, IsNormal};
 
 use crate::merging::{ALL_KEYS, gaps, joined};
 use list_types::Listed;
@@ -42,7 +42,7 @@ impl Intervals {
 
     /// Each key of a BIGINT.
     pub fn whole(alloc: Global) -> Result<Intervals, AllocError>
-        ensures { IfOk result (λ keys. (key : ℤ) → FitsSigned w64 key → has_key keys key ≡ true) }
+        ensures { IfOk result (λ keys. AreKeys keys (λ key. true)) }
     {
         Intervals::of_interval(alloc, &ALL_KEYS)
     }
@@ -83,7 +83,7 @@ impl Intervals {
 
     /// The keys of a BIGINT that aren't in the set. The cost is linear.
     pub fn complement(&self, alloc: Global) -> Result<Intervals, AllocError>
-        ensures { IfOk result (λ keys. (key : ℤ) → FitsSigned w64 key → has_key keys key ≡ not (has_key self.now key)) }
+        ensures { IfOk result (λ keys. AreKeys keys (λ key. not (has_key self.now key))) }
     {
         let list = Listed::from_vec(gaps(alloc, self.as_slice())?);
         Ok(Intervals { list })
@@ -100,7 +100,7 @@ impl Intervals {
 
     /// The keys that are in both sets: those that are in neither one's complement. The cost is linear.
     pub fn meet(&self, alloc: Global, other: &Intervals) -> Result<Intervals, AllocError>
-        ensures { IfOk result (λ keys. (key : ℤ) → FitsSigned w64 key → has_key keys key ≡ (has_key self.now key && has_key other.now key)) }
+        ensures { IfOk result (λ keys. AreKeys keys (λ key. has_key self.now key && has_key other.now key)) }
     {
         let left = self.complement(alloc)?;
         let right = other.complement(alloc)?;

@@ -1,6 +1,6 @@
 ghost use Rattle.std.specs.Prelude.{◌≡◌, ℤ, pos, ◌+ℤ◌, ◌≤ℤ◌, ◌∷◌, IfOk, OnOk, IfSome, IfNone, FitsSigned, not, ◌||◌};
 ghost use Rattle.std.specs.Int.{w64};
-ghost use Rattle.part_rules.specs.KeySets.{has_key, is_within, IsNormal};
+ghost use Rattle.part_rules.specs.KeySets.{AreKeys, has_key, is_within, IsNormal};
 ghost use Rattle.part_rules.specs.Merging.{Ascends, IsAscending, with_gap};
 
 use sql_values::Interval;
@@ -103,7 +103,7 @@ fn push_gap(
 pub(crate) fn gaps(alloc: Global, intervals: &[Interval]) -> Result<Vec<Interval>, AllocError>
     requires { IsNormal intervals.now }
     ensures normal { IfOk result (λ list. IsNormal list.items) }
-    ensures keys { IfOk result (λ list. (key : ℤ) → FitsSigned w64 key → has_key list.items key ≡ not (has_key intervals.now key)) }
+    ensures keys { IfOk result (λ list. AreKeys list.items (λ key. not (has_key intervals.now key))) }
 {
     let mut list = Vec::new(alloc);
     let mut rest = ALL_KEYS;
