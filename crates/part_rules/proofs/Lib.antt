@@ -1,6 +1,7 @@
 pub mod Ascending
 pub mod Gaps
 pub mod HashMarks
+pub mod KeptKeys
 pub mod KeyLists
 pub mod KeyTests
 pub mod ListMarks

@@ -1,4 +1,5 @@
 pub mod Keeps
+pub mod KeyRows
 pub mod KeySets
 pub mod Marking
 pub mod Merging

@@ -84,3 +84,37 @@ impl Lists {
         }
     }
 }
+
+impl Clone for Lists {
+    ghost use Rattle.std.specs.Prelude.{◌≡◌};
+
+    ghost is_clone = { λ a b. b ≡ a };
+
+    fn clone(&self) -> Result<Lists, AllocError> {
+        Ok(Lists {
+            lists: self.lists.clone()?,
+            places: self.places.clone()?,
+        })
+    }
+}
+
+impl PartialEq for Lists {
+    ghost use Rattle.std.specs.Ordering.{int_eq};
+    ghost use Rattle.std.specs.Cmp.{partial_equiv_from_equiv, int_eq_equiv};
+    ghost use Rattle.std.specs.Cmp.Lexicographic.{pointwise, lists_per};
+
+    ghost eq = { pointwise (pointwise int_eq) };
+
+    ghost laws = { lists_per (lists_per (partial_equiv_from_equiv int_eq_equiv)) };
+
+    fn eq(&self, other: &Lists) -> bool {
+        self.lists == other.lists
+    }
+}
+
+impl Eq for Lists {
+    ghost use Rattle.std.specs.Cmp.{int_eq_equiv};
+    ghost use Rattle.std.specs.Cmp.Lexicographic.{lists_equiv};
+
+    ghost laws = { lists_equiv (lists_equiv int_eq_equiv) };
+}

@@ -1,4 +1,4 @@
-ghost use Rattle.std.specs.Prelude.{◌≡◌, ◌<◌};
+ghost use Rattle.std.specs.Prelude.{◌≡◌, ◌<◌, ◌≤◌, ◌^◌, ◌↔◌, IsTrue};
 ghost use Rattle.part_rules.specs.Rules.{hash_part};
 ghost use Rattle.part_rules.specs.Placing.{part, part_count as count, IsRule};
 
@@ -7,7 +7,7 @@ use crate::lists::Lists;
 use sql_values::PartNo;
 
 /// How a table is cut into partitions by its key.
-#[derive(Debug, Drop)]
+#[derive(Clone, Debug, PartialEq, Eq, Drop)]
 pub enum Rule {
     /// One partition has all keys.
     Whole,
@@ -28,7 +28,25 @@ pub(crate) fn hash_of(key: &i64, parts: u32) -> PartNo
     (*key % i64::from(parts)).unsigned_abs() as PartNo
 }
 
+fn is_count(count: usize) -> bool
+    ensures { IsTrue result ↔ ((1 ≤ count) × (count < 2 ^ 32)) }
+{
+    1 <= count && count <= u32::MAX as usize
+}
+
 impl Rule {
+    /// Whether there is a partition, and no more of them than can be numbered. All else that takes a rule asks that of it.
+    pub fn has_parts(&self) -> bool
+        ensures { IsTrue result ↔ IsRule self.now }
+    {
+        match self {
+            Rule::Whole => true,
+            Rule::Range(bounds) => is_count(bounds.as_slice().len()),
+            Rule::List(lists) => is_count(lists.as_slice().len()),
+            Rule::Hash(parts) => is_count(*parts as usize),
+        }
+    }
+
     /// How many partitions there are.
     pub fn part_count(&self) -> u32
         requires { IsRule self.now }
