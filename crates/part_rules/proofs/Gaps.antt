@@ -29,7 +29,7 @@ Gaps-none is list none normal = record {
   rises = rw none (omega (arith, ints));
   normal = normal;
   ahead = λ l. absurd (omega (arith, ints));
-  keys = λ key fits. rw none (let from : int_le least_key key ≡ true = grind (arith, ints) in grind (arith, from))
+  keys = λ key fits. rw none (let from : int_le least_key key ≡ true = grind (arith, ints) in grind (arith, from));
 }
 
 -- the next interval begins at `low` or later
@@ -52,29 +52,29 @@ gap_keys list low x rest key rises =
     let later : key <ℤ (x.high +ℤ pos 2) → has_key rest key ≡ false = has_key-before (x.high +ℤ pos 2) rest key rises.2 in
     by_lt_z low x.low
     (λ before.
-      let test : int_lt low x.low ≡ true = grind (arith, ints) in
-      let gap : Interval = record { low = low; high = x.low -ℤ pos 1 } in
-      let is_more : with_gap list low x.low ≡ list ++ gap ∷ [] = cond-true (int_lt low x.low) _ _ test in
-      rw (is_more, list_any-append (is_within key) list (gap ∷ [])) (some_gap low x.low x.high key (has_key list key) (has_key rest key) before rises.1 later))
+    let test : int_lt low x.low ≡ true = grind (arith, ints) in
+    let gap : Interval = record { low = low; high = x.low -ℤ pos 1 } in
+    let is_more : with_gap list low x.low ≡ list ++ gap ∷ [] = cond-true (int_lt low x.low) _ _ test in
+    rw (is_more, list_any-append (is_within key) list (gap ∷ [])) (some_gap low x.low x.high key (has_key list key) (has_key rest key) before rises.1 later))
     (λ none.
-      let test : int_lt low x.low ≡ false = grind (arith, ints) in
-      let is_same : with_gap list low x.low ≡ list = cond-false (int_lt low x.low) _ _ test in
-      let equal : low ≡ x.low = omega (arith, ints) in
-      rw is_same (no_gap low x.low x.high key (has_key list key) (has_key rest key) equal rises.1 later))
+    let test : int_lt low x.low ≡ false = grind (arith, ints) in
+    let is_same : with_gap list low x.low ≡ list = cond-false (int_lt low x.low) _ _ test in
+    let equal : low ≡ x.low = omega (arith, ints) in
+    rw is_same (no_gap low x.low x.high key (has_key list key) (has_key rest key) equal rises.1 later))
 
 gap_rises : (list : List Interval) (low end top : ℤ) → RisesTo least_key list low → low ≤ℤ end → end <ℤ top → RisesTo least_key (with_gap list low end) top
 gap_rises list low end top rises below above =
     by_lt_z low end
     (λ before.
-      let test : int_lt low end ≡ true = grind (arith, ints) in
-      let gap : Interval = record { low = low; high = end -ℤ pos 1 } in
-      let is_more : with_gap list low end ≡ list ++ gap ∷ [] = cond-true (int_lt low end) _ _ test in
-      let more : RisesTo least_key (list ++ gap ∷ []) (gap.high +ℤ pos 2) = RisesTo-push least_key list low gap rises (omega (arith, ints)) (omega (arith, ints)) in
-      rw is_more (RisesTo-later least_key (list ++ gap ∷ []) (gap.high +ℤ pos 2) top more (omega (arith, ints))))
+    let test : int_lt low end ≡ true = grind (arith, ints) in
+    let gap : Interval = record { low = low; high = end -ℤ pos 1 } in
+    let is_more : with_gap list low end ≡ list ++ gap ∷ [] = cond-true (int_lt low end) _ _ test in
+    let more : RisesTo least_key (list ++ gap ∷ []) (gap.high +ℤ pos 2) = RisesTo-push least_key list low gap rises (omega (arith, ints)) (omega (arith, ints)) in
+    rw is_more (RisesTo-later least_key (list ++ gap ∷ []) (gap.high +ℤ pos 2) top more (omega (arith, ints))))
     (λ none.
-      let test : int_lt low end ≡ false = grind (arith, ints) in
-      let is_same : with_gap list low end ≡ list = cond-false (int_lt low end) _ _ test in
-      rw is_same (RisesTo-later least_key list low top rises (omega (arith, ints))))
+    let test : int_lt low end ≡ false = grind (arith, ints) in
+    let is_same : with_gap list low end ≡ list = cond-false (int_lt low end) _ _ test in
+    rw is_same (RisesTo-later least_key list low top rises (omega (arith, ints))))
 
 -- what is known at the next interval
 record Ahead (is list pushed : List Interval) (low next : ℤ) (i : ℕ) (x : Interval) : Type 0 where
@@ -89,7 +89,7 @@ ahead_of is list pushed low next i x gaps within is_x fits is_pushed is_next =
     record {
       rises = rw (is_pushed, is_next) (gap_rises list low x.low (x.high +ℤ pos 1) gaps.rises rises.0 (omega (arith, ints)));
       rest = rises.2;
-      keys = λ key fit. rw (is_pushed, is_next) (gap_keys list low x (drop (i + 1) is) key rises ∙ rw more at (gaps.keys key fit))
+      keys = λ key fit. rw (is_pushed, is_next) (gap_keys list low x (drop (i + 1) is) key rises ∙ rw more at (gaps.keys key fit));
     }
 
 RisesFrom-normal : (low : ℤ) (is : List Interval) → RisesFrom low is → IsNormal is
@@ -103,7 +103,7 @@ Gaps-more is list pushed low next i x gaps within is_x fits is_pushed is_next =
       rises = ahead.rises;
       normal = RisesFrom-normal (x.high +ℤ pos 2) (drop (i + 1) is) ahead.rest;
       ahead = λ l. RisesFrom-earlier (x.high +ℤ pos 2) next (drop (i + 1) is) ahead.rest (omega (arith, ints));
-      keys = ahead.keys
+      keys = ahead.keys;
     }
 
 -- the gaps of a list
@@ -122,7 +122,7 @@ AreGaps-at_top is list pushed low i x gaps within is_x fits is_pushed is_top =
     let ahead = ahead_of is list pushed low (x.high +ℤ pos 1) i x gaps within is_x fits is_pushed refl in
     record {
       normal = IsNormal-of least_key pushed (x.high +ℤ pos 1) ahead.rises;
-      keys = λ key fit. none_above key (has_key pushed key) x.high (not (has_key (drop (i + 1) is) key)) (not (has_key is key)) fit is_top (ahead.keys key fit)
+      keys = λ key fit. none_above key (has_key pushed key) x.high (not (has_key (drop (i + 1) is) key)) (not (has_key is key)) fit is_top (ahead.keys key fit);
     }
 
 last_keys : (list : List Interval) (last : Interval) (key : ℤ) → FitsSigned w64 key → last.high ≡ greatest_key → has_key (list ++ last ∷ []) key ≡ (has_key list key || (int_le last.low key && true))
@@ -136,5 +136,5 @@ AreGaps-at_end is list pushed last i gaps end filled is_top is_pushed =
     let none : drop i is ≡ [] = drop_all i is end in
     record {
       normal = rw is_pushed (IsNormal-of least_key (list ++ last ∷ []) (last.high +ℤ pos 2) (RisesTo-push least_key list last.low last gaps.rises (omega (arith, ints)) filled));
-      keys = λ key fit. rw is_pushed (last_keys list last key fit is_top ∙ rw none at (gaps.keys key fit))
+      keys = λ key fit. rw is_pushed (last_keys list last key fit is_top ∙ rw none at (gaps.keys key fit));
     }

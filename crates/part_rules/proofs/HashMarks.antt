@@ -24,12 +24,12 @@ remainder_in_row a n p within =
     let whole : a / n * n + a % n ≡ a = div-add-mod' a n in
     let below : a % n < n = mod_below a n (omega arith) in
     elim (cases_lt p (a % n)) [
-      inl before ↦
-        let sum : a + (p + n - a % n) ≡ (a / n + 1) * n + p = omega arith in
-        (p + n - a % n, omega arith, rw sum (mod-mul-add (a / n + 1) n p within))
+      | inl before ↦
+          let sum : a + (p + n - a % n) ≡ (a / n + 1) * n + p = omega arith in
+          (p + n - a % n, omega arith, rw sum (mod-mul-add (a / n + 1) n p within))
       | inr from ↦
-        let sum : a + (p - a % n) ≡ a / n * n + p = omega arith in
-        (p - a % n, omega arith, rw sum (mod-mul-add (a / n) n p within))
+          let sum : a + (p - a % n) ≡ a / n * n + p = omega arith in
+          (p - a % n, omega arith, rw sum (mod-mul-add (a / n) n p within))
     ]
 
 mod_of_small : (n p : ℕ) → p < n → p % n ≡ p
@@ -49,7 +49,7 @@ every_part n p (negsuc a) (negsuc b) within long =
     (negsuc (b + found.0), omega (arith, ints, found.1), omega (arith, ints), hash_of_negative n (b + found.0) ∙ rw same found.2)
 every_part n p (negsuc a) (pos b) within long =
     elim (cases_lt b (n - 1)) [
-      inl short ↦ below_zero p short within
+      | inl short ↦ below_zero p short within
       | inr far ↦ (pos p, omega (arith, ints), omega (arith, ints), mod_of_small n p within)
     ]
   where
@@ -76,12 +76,12 @@ marked_below (suc n) (suc p) mark = omega (arith, marked_below n p mark)
 pub AreMarks-full : (n : ℕ) (keys : List Interval) (i : ℕ) (d : Interval) (marks : List Bool) → 0 < n → i < length keys → ((get_or keys i d).low +ℤ pos (2 * (n - 1))) ≤ℤ (get_or keys i d).high → marks ≡ replicate n true → AreMarks (λ key. Some (hash_part n key)) keys marks
 AreMarks-full n keys i d marks some within long full = record {
   owners = λ p mark.
-    let found = every_part n p (get_or keys i d).low (get_or keys i d).high (marked_below n p (rw full at mark)) long in
-    (found.0, list_any_at (is_within found.0) keys i d within (within_from found.0 (get_or keys i d) found.1 found.2), ap (λ (q : ℕ). Some q) found.3);
+      let found = every_part n p (get_or keys i d).low (get_or keys i d).high (marked_below n p (rw full at mark)) long in
+      (found.0, list_any_at (is_within found.0) keys i d within (within_from found.0 (get_or keys i d) found.1 found.2), ap (λ (q : ℕ). Some q) found.3);
   all = λ key p there place.
-    let is_place : hash_part n key ≡ p = cc in
-    let below : hash_part n key < n = hash_within n key some in
-    rw full (all_marked n p (omega (arith, is_place, below)))
+      let is_place : hash_part n key ≡ p = cc in
+      let below : hash_part n key < n = hash_within n key some in
+      rw full (all_marked n p (omega (arith, is_place, below)));
 }
   where
     hash_within : (n : ℕ) (key : ℤ) → 0 < n → hash_part n key < n

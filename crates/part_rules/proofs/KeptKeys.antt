@@ -38,7 +38,7 @@ find_cell n name (c ∷ cs) (w ∷ row) zero column v at means alone value =
     rw means_here value
 find_cell n name (c ∷ cs) (w ∷ row) (suc k) column v at means alone value =
     elim (cases_Bool (may_mean name (n, c))) [
-      inl first ↦ let place : 0 ≡ suc k = alone 0 c refl first in absurd (omega arith)
+      | inl first ↦ let place : 0 ≡ suc k = alone 0 c refl first in absurd (omega arith)
       | inr other ↦ rw other (find_cell n name cs row k column v at means (λ j d found m. let place : suc j ≡ suc k = alone (suc j) d found m in omega arith) value)
     ]
 
@@ -59,7 +59,7 @@ key_value table row key name own at named =
     let found = with_column table name (slice_get table.columns table.key) refl named in
     rw append-nil
     (find_cell table.name name table.columns row table.key found.0 (value.Number key) found.1 found.2
-      (λ j c there means. own j c found.0 there found.1 (same_names name table.name c found.0 means found.2)) at)
+    (λ j c there means. own j c found.0 there found.1 (same_names name table.name c found.0 means found.2)) at)
 
 key_literal : (table : TableDef) (row : List Value) (key : ℤ) (name : ColumnName) → HasOwnKeyName table → slice_get row table.key ≡ Some (value.Number key) → names_key table name ≡ true → column_literal (table ∷ []) row name ≡ literal.Number key
 key_literal table row key name own at named = rw (key_value table row key name own at named) refl
@@ -113,7 +113,7 @@ any_kept : (table : TableDef) (row : List Value) (key : ℤ) (parts : List ((c :
 any_kept table row key [] hold = hold
 any_kept table row key (e ∷ parts) hold =
     elim (or_cases (cond_holds (table ∷ []) row e.0) (list_any (λ b. b) (map (cond_holds (table ∷ []) row) (map (λ e. e.0) parts))) hold) [
-      inl first ↦ or_left (keeps table key e.0) (list_any (λ b. b) (map (keeps table key) (map (λ e. e.0) parts))) (e.1 first)
+      | inl first ↦ or_left (keeps table key e.0) (list_any (λ b. b) (map (keeps table key) (map (λ e. e.0) parts))) (e.1 first)
       | inr later ↦ or_right (keeps table key e.0) (list_any (λ b. b) (map (keeps table key) (map (λ e. e.0) parts))) (any_kept table row key parts later)
     ]
 

@@ -35,7 +35,7 @@ filter_keeps {X} p (y ∷ xs) x zero within is passes =
 filter_keeps {X} p (y ∷ xs) x (suc k) within is passes =
     let later = filter_keeps p xs x k (omega arith) is passes in
     elim (cases_Bool (p y)) [
-      inl kept ↦ rw kept (later_in y x (filter p xs) later)
+      | inl kept ↦ rw kept (later_in y x (filter p xs) later)
       | inr dropped ↦ rw dropped later
     ]
 
@@ -53,7 +53,7 @@ Listed-none i all old = record {
   split = refl;
   kept = λ p mark. mark;
   owners = λ p mark. inl mark;
-  marked = λ e there. absurd (omega (arith, there.1))
+  marked = λ e there. absurd (omega (arith, there.1));
 }
 
 pub Listed-more : (i : Interval) (all rest left : List (ℤ × ℕ)) (old new newer : List Bool) (e : ℤ × ℕ) → Listed i all rest old new → rest ≡ e ∷ left → newer ≡ set new e.1 true → e.1 < length new → Listed i all left old newer
@@ -65,15 +65,15 @@ Listed-more i all rest left old new newer e listed more is_newer within =
       split = rw append_assoc split;
       kept = λ p mark. rw is_newer (mark_stays new e.1 p (listed.kept p mark));
       owners = λ p mark.
-        elim (mark_new new e.1 p (rw is_newer at mark)) [
-          inl before ↦ listed.owners p before
-          | inr same ↦ inr (e.0, subst (λ (q : ℕ). Contains all (e.0, q)) (sym same) there)
-        ];
+          elim (mark_new new e.1 p (rw is_newer at mark)) [
+            | inl before ↦ listed.owners p before
+            | inr same ↦ inr (e.0, subst (λ (q : ℕ). Contains all (e.0, q)) (sym same) there)
+          ];
       marked = λ x found.
-        elim (Contains-push_cases listed.done e x found) [
-          inl before ↦ rw is_newer (mark_stays new e.1 x.1 (listed.marked x before))
-          | inr same ↦ rw is_newer (subst (λ (y : ℤ × ℕ). IsMarked (set new e.1 true) y.1) same (mark_set new e.1 within))
-        ]
+          elim (Contains-push_cases listed.done e x found) [
+            | inl before ↦ rw is_newer (mark_stays new e.1 x.1 (listed.marked x before))
+            | inr same ↦ rw is_newer (subst (λ (y : ℤ × ℕ). IsMarked (set new e.1 true) y.1) same (mark_set new e.1 within))
+          ];
     }
 
 in_bounds : (key : ℤ) (i : Interval) → range_contains int_cmp (Included i.low) (Included i.high) key ≡ is_within key i
@@ -100,12 +100,12 @@ Marks-listed lists places i all rest old new index ordered is_all end listed =
     record {
       kept = listed.kept;
       owners = λ p mark.
-        elim (listed.owners p mark) [
-          inl before ↦ inl before
-          | inr owner ↦ let found = in_range lists places i all index ordered is_all owner.0 p owner.1 in inr (owner.0, found.0, found.1)
-        ];
+          elim (listed.owners p mark) [
+            | inl before ↦ inl before
+            | inr owner ↦ let found = in_range lists places i all index ordered is_all owner.0 p owner.1 in inr (owner.0, found.0, found.1)
+          ];
       all = λ key p within place.
-        listed.marked (key, p) (rw whole (from_range lists places i all index ordered is_all key p within place))
+          listed.marked (key, p) (rw whole (from_range lists places i all index ordered is_all key p within place));
     }
 
 -- the partition of an entry is one of the lists'

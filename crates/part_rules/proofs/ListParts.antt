@@ -36,33 +36,33 @@ pub HasAdded-there : (old places : BTreeMap ℤ ℕ) (part : ℕ) (keys : List �
 HasAdded-there old places part keys i d within so_far there q =
     rw (more_keys q keys i d within)
     (elim (cases_Bool (int_eq (get_or keys i d) q)) [
-      inl same ↦
-        let equal : get_or keys i d ≡ q = (Decides-int_eq (get_or keys i d) q).0 same in
-        let there_too : is_some (get int_cmp places q) ≡ true = subst (λ (k : ℤ). is_some (get int_cmp places k) ≡ true) equal there in
-        kept (get int_cmp old q) (lists_key q (take i keys)) (int_eq (get_or keys i d) q) part (get int_cmp places q) (so_far q) there_too
+      | inl same ↦
+          let equal : get_or keys i d ≡ q = (Decides-int_eq (get_or keys i d) q).0 same in
+          let there_too : is_some (get int_cmp places q) ≡ true = subst (λ (k : ℤ). is_some (get int_cmp places k) ≡ true) equal there in
+          kept (get int_cmp old q) (lists_key q (take i keys)) (int_eq (get_or keys i d) q) part (get int_cmp places q) (so_far q) there_too
       | inr apart ↦ other (get int_cmp old q) (lists_key q (take i keys)) (int_eq (get_or keys i d) q) part (get int_cmp places q) (so_far q) apart
     ])
 
 pub HasAdded-new : (old places grown : BTreeMap ℤ ℕ) (part : ℕ) (keys : List ℤ) (i : ℕ) (d key : ℤ) → i < length keys → key ≡ get_or keys i d → HasAdded old places part keys i → is_some (get int_cmp places (get_or keys i d)) ≡ false → ((q : ℤ) → get int_cmp grown q ≡ cond (int_eq key q) (Some part) (get int_cmp places q)) → HasAdded old grown part keys (i + 1)
 HasAdded-new old places grown part keys i d key within is_key so_far gone grows_at q =
     let grows : (q : ℤ) → get int_cmp grown q ≡ cond (int_eq (get_or keys i d) q) (Some part) (get int_cmp places q) =
-      subst (λ (k : ℤ). (q : ℤ) → get int_cmp grown q ≡ cond (int_eq k q) (Some part) (get int_cmp places q)) is_key grows_at in
+    subst (λ (k : ℤ). (q : ℤ) → get int_cmp grown q ≡ cond (int_eq k q) (Some part) (get int_cmp places q)) is_key grows_at in
     rw (more_keys q keys i d within)
     (elim (cases_Bool (int_eq (get_or keys i d) q)) [
-      inl same ↦
-        let equal : get_or keys i d ≡ q = (Decides-int_eq (get_or keys i d) q).0 same in
-        let gone_too : is_some (get int_cmp places q) ≡ false = subst (λ (k : ℤ). is_some (get int_cmp places k) ≡ false) equal gone in
-        grows q ∙ cond-true (int_eq (get_or keys i d) q) (Some part) (get int_cmp places q) same
-        ∙ added (get int_cmp old q) (lists_key q (take i keys)) (int_eq (get_or keys i d) q) part (get int_cmp places q) (so_far q) gone_too same
+      | inl same ↦
+          let equal : get_or keys i d ≡ q = (Decides-int_eq (get_or keys i d) q).0 same in
+          let gone_too : is_some (get int_cmp places q) ≡ false = subst (λ (k : ℤ). is_some (get int_cmp places k) ≡ false) equal gone in
+          grows q ∙ cond-true (int_eq (get_or keys i d) q) (Some part) (get int_cmp places q) same
+          ∙ added (get int_cmp old q) (lists_key q (take i keys)) (int_eq (get_or keys i d) q) part (get int_cmp places q) (so_far q) gone_too same
       | inr apart ↦
-        grows q ∙ cond-false (int_eq (get_or keys i d) q) (Some part) (get int_cmp places q) apart
-        ∙ other (get int_cmp old q) (lists_key q (take i keys)) (int_eq (get_or keys i d) q) part (get int_cmp places q) (so_far q) apart
+          grows q ∙ cond-false (int_eq (get_or keys i d) q) (Some part) (get int_cmp places q) apart
+          ∙ other (get int_cmp old q) (lists_key q (take i keys)) (int_eq (get_or keys i d) q) part (get int_cmp places q) (so_far q) apart
     ])
 
 -- the index of the first lists, and of one more
 pub indexed-more : (lists : List (List ℤ)) (i : ℕ) (d list : List ℤ) (old new : BTreeMap ℤ ℕ) → i < length lists → list ≡ get_or lists i d → ((key : ℤ) → get int_cmp old key ≡ list_part (take i lists) key) → ((key : ℤ) → get int_cmp new key ≡ option_or (get int_cmp old key) (cond (lists_key key list) (Some i) None)) → (key : ℤ) → get int_cmp new key ≡ list_part (take (i + 1) lists) key
 indexed-more lists i d list old new within is_list so_far grown key =
     let here : get int_cmp new key ≡ option_or (get int_cmp old key) (cond (lists_key key (get_or lists i d)) (Some i) None) =
-      subst (λ (l : List ℤ). get int_cmp new key ≡ option_or (get int_cmp old key) (cond (lists_key key l) (Some i) None)) is_list (grown key) in
+    subst (λ (l : List ℤ). get int_cmp new key ≡ option_or (get int_cmp old key) (cond (lists_key key l) (Some i) None)) is_list (grown key) in
     rw (position-more (lists_key key) lists i d within)
     (subst (λ (o : Option ℕ). get int_cmp new key ≡ option_or o (cond (lists_key key (get_or lists i d)) (Some i) None)) (so_far key) here)

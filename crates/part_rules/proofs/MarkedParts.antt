@@ -29,7 +29,7 @@ listed i (m ∷ marks) (suc k) mark =
     let same : i + 1 + k ≡ i + suc k = omega arith in
     let later : Contains (marked_from (i + 1) marks) (i + suc k) = subst (λ (p : ℕ). Contains (marked_from (i + 1) marks) p) same (listed (i + 1) marks k mark) in
     elim (cases_Bool m) [
-      inl set ↦ rw set (later_in i (i + suc k) (marked_from (i + 1) marks) later)
+      | inl set ↦ rw set (later_in i (i + suc k) (marked_from (i + 1) marks) later)
       | inr clear ↦ rw clear later
     ]
 
@@ -37,11 +37,11 @@ mark_of : (i : ℕ) (marks : List Bool) (p : ℕ) → Contains (marked_from i ma
 mark_of i [] p there = absurd (omega (arith, there.1))
 mark_of i (m ∷ marks) p there =
     elim (cases_Bool m) [
-      inl set ↦
-        elim (in_cases i p (marked_from (i + 1) marks) (rw set at there)) [
-          inl first ↦ (0, omega arith, set)
-          | inr later ↦ let found = mark_of (i + 1) marks p later in (suc found.0, omega (arith, found.1), found.2)
-        ]
+      | inl set ↦
+          elim (in_cases i p (marked_from (i + 1) marks) (rw set at there)) [
+            | inl first ↦ (0, omega arith, set)
+            | inr later ↦ let found = mark_of (i + 1) marks p later in (suc found.0, omega (arith, found.1), found.2)
+          ]
       | inr clear ↦ let found = mark_of (i + 1) marks p (rw clear at there) in (suc found.0, omega (arith, found.1), found.2)
     ]
 
@@ -55,8 +55,9 @@ rises_below i xs rises = (steps, least)
     steps : IsStrictlyIncreasing (i ∷ xs)
     steps zero within = let next : i + 1 ≤ get_or xs 0 0 = rises.1 0 (omega arith) in omega arith
     steps (suc k) within =
-      let next : get_or xs k 0 < get_or xs (suc k) 0 = rw (add-one k) at (rises.0 k (omega arith)) in
-      rw (add-one (suc k)) next
+        let next : get_or xs k 0 < get_or xs (suc k) 0 = rw (add-one k) at (rises.0 k (omega arith)) in
+        rw (add-one (suc k)) next
+
     least : (k : ℕ) → k < length (i ∷ xs) → i ≤ get_or (i ∷ xs) k 0
     least zero within = omega arith
     least (suc k) within = let next : i + 1 ≤ get_or xs k 0 = rises.1 k (omega arith) in omega arith
@@ -66,7 +67,7 @@ rising i [] = (λ k within. absurd (omega arith), λ k within. absurd (omega ari
 rising i (m ∷ marks) =
     let later = rising (i + 1) marks in
     elim (cases_Bool m) [
-      inl set ↦ rw set (rises_below i (marked_from (i + 1) marks) later)
+      | inl set ↦ rw set (rises_below i (marked_from (i + 1) marks) later)
       | inr clear ↦ rw clear (later.0, λ k within. let next : i + 1 ≤ get_or (marked_from (i + 1) marks) k 0 = later.1 k within in omega arith)
     ]
 
@@ -74,19 +75,19 @@ pub IsPruned-marked : (rule : Rule) (keys : List Interval) (marks : List Bool) (
 IsPruned-marked rule keys marks parts are is_parts = record {
   rising = rw is_parts (rising 0 marks).0;
   owners = λ p there.
-    let found = mark_of 0 marks p (rw is_parts at there) in
-    let same : found.0 ≡ p = omega (arith, found.1) in
-    are.owners p (subst (λ (q : ℕ). IsMarked marks q) same found.2);
+      let found = mark_of 0 marks p (rw is_parts at there) in
+      let same : found.0 ≡ p = omega (arith, found.1) in
+      are.owners p (subst (λ (q : ℕ). IsMarked marks q) same found.2);
   all = λ p owner.
-    let mark : IsMarked marks p = are.all owner.0 p owner.1 owner.2 in
-    rw is_parts (subst (λ (q : ℕ). Contains (marked_from 0 marks) q) (zero-add p) (listed 0 marks p mark))
+      let mark : IsMarked marks p = are.all owner.0 p owner.1 owner.2 in
+      rw is_parts (subst (λ (q : ℕ). Contains (marked_from 0 marks) q) (zero-add p) (listed 0 marks p mark));
 }
 
 -- one partition has all keys
 pub AreMarks-whole_rule : (keys : List Interval) (some : Bool) → IsNormal keys → (keys ≡ [] → some ≡ false) → (some ≡ false → keys ≡ []) → AreMarks (λ key. Some 0) keys (some ∷ [])
 AreMarks-whole_rule [] some normal none empty = record {
   owners = λ p mark. absurd (no_mark p mark);
-  all = λ key p there place. absurd (both_ways false refl there)
+  all = λ key p there place. absurd (both_ways false refl there);
 }
   where
     no_mark : (p : ℕ) → IsMarked (some ∷ []) p → ⊥
@@ -94,12 +95,13 @@ AreMarks-whole_rule [] some normal none empty = record {
     no_mark (suc p) mark = both_ways false refl mark
 AreMarks-whole_rule (x ∷ is) some normal none empty = record {
   owners = λ p mark. (x.low, at_first x is x.low (omega (arith, ints)) normal.1, ap (λ (q : ℕ). Some q) (first p mark));
-  all = λ key p there place. let is_first : 0 ≡ p = cc in subst (λ (q : ℕ). IsMarked (some ∷ []) q) is_first is_some
+  all = λ key p there place. let is_first : 0 ≡ p = cc in subst (λ (q : ℕ). IsMarked (some ∷ []) q) is_first is_some;
 }
   where
     first : (p : ℕ) → IsMarked (some ∷ []) p → 0 ≡ p
     first zero mark = refl
     first (suc p) mark = absurd (both_ways false refl mark)
+
     is_some : some ≡ true
     is_some = elim (cases_Bool some) [ inl set ↦ set | inr clear ↦ let gone : x ∷ is ≡ [] = empty clear in cc ]
 

@@ -54,7 +54,7 @@ MarksBelow-none place i next old new start same = record {
   begun = omega (arith, ints);
   kept = λ p mark. rw same mark;
   owners = λ p mark. inl (rw same at mark);
-  all = λ key p from before found. absurd (omega (arith, ints))
+  all = λ key p from before found. absurd (omega (arith, ints));
 }
 
 pub within_from : (key : ℤ) (i : Interval) → i.low ≤ℤ key → key ≤ℤ i.high → is_within key i ≡ true
@@ -68,18 +68,18 @@ MarksBelow-more place i key next at old new newer marks to is_next found within 
   begun = omega (arith, ints);
   kept = λ p mark. rw is_newer (mark_stays new at p (marks.kept p mark));
   owners = λ p mark.
-    elim (mark_new new at p (rw is_newer at mark)) [
-      inl before ↦ marks.owners p before
-      | inr same ↦ inr (key, within_from key i marks.begun to, subst (λ (q : ℕ). place key ≡ Some q) (sym same) found)
-    ];
+      elim (mark_new new at p (rw is_newer at mark)) [
+        | inl before ↦ marks.owners p before
+        | inr same ↦ inr (key, within_from key i marks.begun to, subst (λ (q : ℕ). place key ≡ Some q) (sym same) found)
+      ];
   all = λ k p from before lies.
-    by_lt_z k key
-    (λ l. rw is_newer (mark_stays new at p (marks.all k p from l lies)))
-    (λ l.
+      by_lt_z k key
+      (λ l. rw is_newer (mark_stays new at p (marks.all k p from l lies)))
+      (λ l.
       let same : k ≡ key = omega (arith, ints) in
       let here : place key ≡ Some p = subst (λ (z : ℤ). place z ≡ Some p) same lies in
       let is_at : at ≡ p = cc in
-      rw is_newer (subst (λ (q : ℕ). IsMarked (set new at true) q) is_at (mark_set new at within)))
+      rw is_newer (subst (λ (q : ℕ). IsMarked (set new at true) q) is_at (mark_set new at within)));
 }
 
 within_parts : (key : ℤ) (i : Interval) → is_within key i ≡ true → (i.low ≤ℤ key) × (key ≤ℤ i.high)
@@ -90,15 +90,15 @@ Marks-below place i next old new marks end = record {
   kept = marks.kept;
   owners = marks.owners;
   all = λ key p within found.
-    let parts = within_parts key i within in
-    marks.all key p parts.0 (omega (arith, ints)) found
+      let parts = within_parts key i within in
+      marks.all key p parts.0 (omega (arith, ints)) found;
 }
 
 -- the marks of no interval, and of one more
 pub AreMarks-none : (place : ℤ → Option ℕ) (keys : List Interval) (n : ℕ) (marks : List Bool) → marks ≡ replicate n false → AreMarks place (take 0 keys) marks
 AreMarks-none place keys n marks none = record {
   owners = λ p mark. absurd (none_marked n p (rw none at mark));
-  all = λ key p there found. absurd (both_ways false refl there)
+  all = λ key p there found. absurd (both_ways false refl there);
 }
 
 key_more : (keys : List Interval) (i : ℕ) (d : Interval) (key : ℤ) → i < length keys → has_key (take (i + 1) keys) key ≡ (has_key (take i keys) key || is_within key (get_or keys i d))
@@ -113,17 +113,17 @@ key_more keys i d key within =
 pub AreMarks-more : (place : ℤ → Option ℕ) (keys : List Interval) (i : ℕ) (d : Interval) (old new : List Bool) → i < length keys → AreMarks place (take i keys) old → Marks place (get_or keys i d) old new → AreMarks place (take (i + 1) keys) new
 AreMarks-more place keys i d old new within are marks = record {
   owners = λ p mark.
-    elim (marks.owners p mark) [
-      inl before ↦
-        let owner = are.owners p before in
-        (owner.0, rw (key_more keys i d owner.0 within) (or_left (has_key (take i keys) owner.0) (is_within owner.0 (get_or keys i d)) owner.1), owner.2)
-      | inr owner ↦ (owner.0, rw (key_more keys i d owner.0 within) (or_right (has_key (take i keys) owner.0) (is_within owner.0 (get_or keys i d)) owner.1), owner.2)
-    ];
+      elim (marks.owners p mark) [
+        | inl before ↦
+            let owner = are.owners p before in
+            (owner.0, rw (key_more keys i d owner.0 within) (or_left (has_key (take i keys) owner.0) (is_within owner.0 (get_or keys i d)) owner.1), owner.2)
+        | inr owner ↦ (owner.0, rw (key_more keys i d owner.0 within) (or_right (has_key (take i keys) owner.0) (is_within owner.0 (get_or keys i d)) owner.1), owner.2)
+      ];
   all = λ key p there found.
-    elim (or_cases (has_key (take i keys) key) (is_within key (get_or keys i d)) (rw (key_more keys i d key within) at there)) [
-      inl before ↦ marks.kept p (are.all key p before found)
-      | inr here ↦ marks.all key p here found
-    ]
+      elim (or_cases (has_key (take i keys) key) (is_within key (get_or keys i d)) (rw (key_more keys i d key within) at there)) [
+        | inl before ↦ marks.kept p (are.all key p before found)
+        | inr here ↦ marks.all key p here found
+      ];
 }
 
 pub AreMarks-whole : (place : ℤ → Option ℕ) (keys : List Interval) (i : ℕ) (marks : List Bool) → length keys ≤ i → AreMarks place (take i keys) marks → AreMarks place keys marks

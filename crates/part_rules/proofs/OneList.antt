@@ -44,9 +44,9 @@ same_behind : (x : Interval) (xs ys : List Interval) → RisesFrom (x.high +ℤ 
 same_behind x xs ys rises rises_b same key fits =
     by_lt_z x.high key
     (λ past.
-      let outside : int_le key x.high ≡ false = grind (arith, ints) in
-      let all : has_key (x ∷ xs) key ≡ has_key (x ∷ ys) key = same key fits in
-      grind (arith, outside, all))
+    let outside : int_le key x.high ≡ false = grind (arith, ints) in
+    let all : has_key (x ∷ xs) key ≡ has_key (x ∷ ys) key = same key fits in
+    grind (arith, outside, all))
     (λ here. has_key-before (x.high +ℤ pos 2) xs key rises (omega (arith, ints)) ∙ sym (has_key-before (x.high +ℤ pos 2) ys key rises_b (omega (arith, ints))))
 
 same_interval : (x y : Interval) → x.low ≡ y.low → x.high ≡ y.high → x ≡ y
@@ -62,20 +62,20 @@ one_list low (x ∷ xs) (y ∷ ys) keys keys_b rises rises_b same =
     by_lt_z x.low y.low
     (no_later x y xs ys keys.0 rises.1 (omega (arith, ints), rises_b.1, rises_b.2) same)
     (λ no_less. by_lt_z y.low x.low
-      (no_later y x ys xs keys_b.0 rises_b.1 (omega (arith, ints), rises.1, rises.2) (same_turned (x ∷ xs) (y ∷ ys) same))
-      (λ no_more.
-        let begin : x.low ≡ y.low = omega (arith, ints) in
-        by_lt_z x.high y.high
-        (no_earlier x y xs ys begin rises.1 keys.1 keys_b.1 rises.2 same)
-        (λ no_shorter. by_lt_z y.high x.high
-          (no_earlier y x ys xs (sym begin) rises_b.1 keys_b.1 keys.1 rises_b.2 (same_turned (x ∷ xs) (y ∷ ys) same))
-          (λ no_longer.
-            let end : x.high ≡ y.high = omega (arith, ints) in
-            let equal : x ≡ y = same_interval x y begin end in
-            let behind : RisesFrom (x.high +ℤ pos 2) ys = subst (λ (h : ℤ). RisesFrom (h +ℤ pos 2) ys) (sym end) rises_b.2 in
-            let turned : HaveSameKeys (x ∷ xs) (x ∷ ys) = subst (λ (i : Interval). HaveSameKeys (x ∷ xs) (i ∷ ys)) (sym equal) same in
-            ap (λ (t : List Interval). x ∷ t) (one_list (x.high +ℤ pos 2) xs ys keys.2 keys_b.2 rises.2 behind (same_behind x xs ys rises.2 behind turned))
-            ∙ ap (λ (i : Interval). i ∷ ys) equal))))
+    (no_later y x ys xs keys_b.0 rises_b.1 (omega (arith, ints), rises.1, rises.2) (same_turned (x ∷ xs) (y ∷ ys) same))
+    (λ no_more.
+    let begin : x.low ≡ y.low = omega (arith, ints) in
+    by_lt_z x.high y.high
+    (no_earlier x y xs ys begin rises.1 keys.1 keys_b.1 rises.2 same)
+    (λ no_shorter. by_lt_z y.high x.high
+    (no_earlier y x ys xs (sym begin) rises_b.1 keys_b.1 keys.1 rises_b.2 (same_turned (x ∷ xs) (y ∷ ys) same))
+    (λ no_longer.
+    let end : x.high ≡ y.high = omega (arith, ints) in
+    let equal : x ≡ y = same_interval x y begin end in
+    let behind : RisesFrom (x.high +ℤ pos 2) ys = subst (λ (h : ℤ). RisesFrom (h +ℤ pos 2) ys) (sym end) rises_b.2 in
+    let turned : HaveSameKeys (x ∷ xs) (x ∷ ys) = subst (λ (i : Interval). HaveSameKeys (x ∷ xs) (i ∷ ys)) (sym equal) same in
+    ap (λ (t : List Interval). x ∷ t) (one_list (x.high +ℤ pos 2) xs ys keys.2 keys_b.2 rises.2 behind (same_behind x xs ys rises.2 behind turned))
+    ∙ ap (λ (i : Interval). i ∷ ys) equal))))
 
 pub sets_are_one_list : (a b : List Interval) → AreBigInts a → AreBigInts b → IsNormal a → IsNormal b → HaveSameKeys a b → a ≡ b
 sets_are_one_list [] [] keys keys_b normal normal_b same = refl

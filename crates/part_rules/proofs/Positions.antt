@@ -42,16 +42,16 @@ position-nowhere p xs past =
 push_place : (m n : ℕ) (b : Bool) → m ≤ n → cond (nat_lt (cond (eqb m n) (n + cond b 0 1) m) (n + 1)) (Some (cond (eqb m n) (n + cond b 0 1) m)) None ≡ option_or (cond (nat_lt m n) (Some m) None) (cond b (Some n) None)
 push_place m n b within =
     elim (cases_lt m n) [
-      inl before ↦
-        let apart : eqb m n ≡ false = ne_eqb m n (λ e. absurd (omega arith)) in
-        let first : nat_lt m n ≡ true = lt-ltb m n before in
-        let still : nat_lt m (n + 1) ≡ true = lt-ltb m (n + 1) (omega arith) in
-        rw (apart, first, still) refl
+      | inl before ↦
+          let apart : eqb m n ≡ false = ne_eqb m n (λ e. absurd (omega arith)) in
+          let first : nat_lt m n ≡ true = lt-ltb m n before in
+          let still : nat_lt m (n + 1) ≡ true = lt-ltb m (n + 1) (omega arith) in
+          rw (apart, first, still) refl
       | inr past ↦
-        let same : m ≡ n = omega arith in
-        let equal : eqb m n ≡ true = eq-eqb m n same in
-        let none : nat_lt m n ≡ false = le-ltb m n past in
-        rw (equal, none) (last b)
+          let same : m ≡ n = omega arith in
+          let equal : eqb m n ≡ true = eq-eqb m n same in
+          let none : nat_lt m n ≡ false = le-ltb m n past in
+          rw (equal, none) (last b)
     ]
   where
     last : (b : Bool) → cond (nat_lt (n + cond b 0 1) (n + 1)) (Some (n + cond b 0 1)) None ≡ cond b (Some n) None
@@ -68,7 +68,7 @@ position-more p xs i d within =
     let len : length (take i xs) ≡ i = grind (arith, common_steps) in
     rw (take_more xs i d within)
     (subst (λ (n : ℕ). position p (take i xs ++ get_or xs i d ∷ []) ≡ option_or (position p (take i xs)) (cond (p (get_or xs i d)) (Some n) None)) len
-      (position-push p (take i xs) (get_or xs i d)))
+    (position-push p (take i xs) (get_or xs i d)))
 
 -- the place in a list by its first element
 pub position-first : {X : Type 0} (p : X → Bool) (x : X) (xs : List X) → p x ≡ true → position p (x ∷ xs) ≡ Some 0
@@ -84,6 +84,7 @@ position-behind {X} p x xs i fails found =
     earlier : (k : ℕ) (d : X) → k < suc i → p (get_or (x ∷ xs) k d) ≡ false
     earlier zero d l = fails
     earlier (suc k) d l = (position-Some p xs i d found).2 k (omega arith)
+
     there : (d : X) → p (get_or xs i d) ≡ true
     there d = (position-Some p xs i d found).1
 

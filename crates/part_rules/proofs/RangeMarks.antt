@@ -55,7 +55,7 @@ RisesFrom-behind : (bound : Bound) (low : ℤ) (is : List Interval) → RisesFro
 RisesFrom-behind bound low [] rises = tt
 RisesFrom-behind bound low (x ∷ is) rises =
     elim (cases_Bool (is_below x.high bound)) [
-      inl below ↦ rw below (RisesFrom-earlier (x.high +ℤ pos 2) low (behind bound is) (RisesFrom-behind bound (x.high +ℤ pos 2) is rises.2) (omega (arith, ints)))
+      | inl below ↦ rw below (RisesFrom-earlier (x.high +ℤ pos 2) low (behind bound is) (RisesFrom-behind bound (x.high +ℤ pos 2) is rises.2) (omega (arith, ints)))
       | inr reaches ↦ rw reaches rises
     ]
 
@@ -75,7 +75,7 @@ behind_in : (bound : Bound) (is : List Interval) (key : ℤ) → has_key (behind
 behind_in bound [] key there = there
 behind_in bound (x ∷ is) key there =
     elim (cases_Bool (is_below x.high bound)) [
-      inl below ↦ in_tail x is key (behind_in bound is key (rw below at there))
+      | inl below ↦ in_tail x is key (behind_in bound is key (rw below at there))
       | inr reaches ↦ rw reaches at there
     ]
 
@@ -84,12 +84,12 @@ in_behind : (bound : Bound) (is : List Interval) (key : ℤ) → is_below key bo
 in_behind bound [] key above there = there
 in_behind bound (x ∷ is) key above there =
     elim (cases_Bool (is_below x.high bound)) [
-      inl below ↦
-        let outside : is_within key x ≡ false = by_lt_z x.high key
+      | inl below ↦
+          let outside : is_within key x ≡ false = by_lt_z x.high key
           (λ l. let past : int_le key x.high ≡ false = grind (arith, ints) in grind (arith, past))
           (λ l. absurd (both_ways (is_below key bound) above (below_earlier key x.high bound l below))) in
-        let later : has_key is key ≡ true = rw outside at there in
-        rw below (in_behind bound is key above later)
+          let later : has_key is key ≡ true = rw outside at there in
+          rw below (in_behind bound is key above later)
       | inr reaches ↦ rw reaches there
     ]
 
@@ -98,14 +98,14 @@ end_in : (n low : ℤ) (is : List Interval) (key : ℤ) → RisesFrom low is →
 end_in n low [] key rises before there = there
 end_in n low (x ∷ is) key rises before there =
     elim (cases_Bool (is_below x.high (Below n))) [
-      inl below ↦ in_tail x is n (end_in n (x.high +ℤ pos 2) is key rises.2 before (rw below at there))
+      | inl below ↦ in_tail x is n (end_in n (x.high +ℤ pos 2) is key rises.2 before (rw below at there))
       | inr reaches ↦
-        let ends : n ≤ℤ x.high = grind (arith, ints) in
-        let here : has_key (x ∷ is) key ≡ true = rw reaches at there in
-        let none : has_key is key ≡ false = has_key-before (x.high +ℤ pos 2) is key rises.2 (omega (arith, ints)) in
-        let within : is_within key x ≡ true = grind (arith, here, none) in
-        let begins : x.low ≤ℤ key = grind (arith, ints) in
-        at_first x is n (omega (arith, ints)) ends
+          let ends : n ≤ℤ x.high = grind (arith, ints) in
+          let here : has_key (x ∷ is) key ≡ true = rw reaches at there in
+          let none : has_key is key ≡ false = has_key-before (x.high +ℤ pos 2) is key rises.2 (omega (arith, ints)) in
+          let within : is_within key x ≡ true = grind (arith, here, none) in
+          let begins : x.low ≤ℤ key = grind (arith, ints) in
+          at_first x is n (omega (arith, ints)) ends
     ]
 
 -- what a binary search for the first that doesn't end below the bound leaves
@@ -138,7 +138,7 @@ owned low (b ∷ bs) (x ∷ is) zero rising rises mark = (x.low, at_first x is x
 owned low (b ∷ bs) is (suc p) rising rises mark =
     let later = owned low bs (behind b is) p (rises_behind b bs rising) (RisesFrom-behind b low is rises) mark in
     elim (cases_Bool (is_below later.0 b)) [
-      inl below ↦ owned_at_end low b bs is p later.0 rising rises later.1 later.2 below
+      | inl below ↦ owned_at_end low b bs is p later.0 rising rises later.1 later.2 below
       | inr above ↦ (later.0, behind_in b is later.0 later.1, position-behind (is_below later.0) b bs p above later.2)
     ]
 
@@ -154,13 +154,13 @@ all_marked : (low : ℤ) (bs : List Bound) (is : List Interval) (key : ℤ) (p :
 all_marked low [] is key p rising rises there place = cc
 all_marked low (b ∷ bs) is key p rising rises there place =
     elim (cases_Bool (is_below key b)) [
-      inl below ↦
-        let first : range_part (b ∷ bs) key ≡ Some 0 = position-first (is_below key) b bs below in
-        let is_first : 0 ≡ p = cc in
-        subst (λ (q : ℕ). IsMarked (range_marks (b ∷ bs) is) q) is_first (first_begins low is key b rises there below)
+      | inl below ↦
+          let first : range_part (b ∷ bs) key ≡ Some 0 = position-first (is_below key) b bs below in
+          let is_first : 0 ≡ p = cc in
+          subst (λ (q : ℕ). IsMarked (range_marks (b ∷ bs) is) q) is_first (first_begins low is key b rises there below)
       | inr above ↦
-        let next = position-behind_of (is_below key) b bs p above place in
-        subst (λ (q : ℕ). IsMarked (range_marks (b ∷ bs) is) q) (sym next.1)
+          let next = position-behind_of (is_below key) b bs p above place in
+          subst (λ (q : ℕ). IsMarked (range_marks (b ∷ bs) is) q) (sym next.1)
           (all_marked low bs (behind b is) key next.0 (rises_behind b bs rising) (RisesFrom-behind b low is rises) (in_behind b is key above there) next.2)
     ]
 
@@ -173,7 +173,7 @@ AreMarks-range bounds keys rising normal =
     let from = from_first keys normal in
     record {
       owners = λ p mark. owned from.0 bounds keys p rising from.1 mark;
-      all = λ key p there place. all_marked from.0 bounds keys key p rising from.1 there place
+      all = λ key p there place. all_marked from.0 bounds keys key p rising from.1 there place;
     }
 
 -- after the last bound

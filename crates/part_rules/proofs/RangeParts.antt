@@ -33,6 +33,6 @@ partitioned key (b ∷ bs) rising (suc i) zero d order within fails = absurd (om
 partitioned key (b ∷ bs) rising (suc i) (suc j) d order within fails = partitioned key bs (rises_behind b bs rising) i j d (omega arith) (omega arith) fails
 partitioned key (b ∷ bs) rising zero (suc j) d order within fails =
     elim (cases_Bool (is_below key b)) [
-      inl below ↦ let later : is_below key (get_or bs j d) ≡ true = below_later key b bs j d rising below (omega arith) in grind (arith, later, fails)
+      | inl below ↦ let later : is_below key (get_or bs j d) ≡ true = below_later key b bs j d rising below (omega arith) in grind (arith, later, fails)
       | inr above ↦ grind (arith, above)
     ]

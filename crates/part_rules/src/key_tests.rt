@@ -109,15 +109,9 @@ pub(crate) fn comparison_keys(
 {
     match (left, right) {
         (Operand::Column(name), Operand::Literal(Literal::Number(number)))
-            if names_key(table, name) =>
-        {
-            compared(alloc, comparison, number)
-        }
+            if names_key(table, name) => { compared(alloc, comparison, number) }
         (Operand::Literal(Literal::Number(number)), Operand::Column(name))
-            if names_key(table, name) =>
-        {
-            compared(alloc, mirrored(comparison), number)
-        }
+            if names_key(table, name) => { compared(alloc, mirrored(comparison), number) }
         _ => Intervals::whole(alloc),
     }
 }

@@ -33,11 +33,7 @@ fn behind<'a>(keys: &'a [Interval], bound: &Bound) -> &'a [Interval]
 }
 
 /// One binary search a partition, among the intervals that are left.
-fn range_marks(
-    alloc: Global,
-    bounds: &Bounds,
-    keys: &[Interval],
-) -> Result<Vec<bool>, AllocError>
+fn range_marks(alloc: Global, bounds: &Bounds, keys: &[Interval]) -> Result<Vec<bool>, AllocError>
     requires { IsNormal keys.now }
     ensures marks { IfOk result (λ marks. AreMarks (range_part bounds.now) keys.now marks.items) }
     ensures count { IfOk result (λ marks. length marks.items ≡ length bounds.now) }

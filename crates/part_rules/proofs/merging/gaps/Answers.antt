@@ -8,7 +8,7 @@ pub loop-interval-preserved : goal.loop-interval-preserved
 loop-interval-preserved c = record {
   found = Gaps-more c.args.intervals.now c.loop-interval.list.items _ c.loop-interval.rest.low _ c.loop-interval.interval-index _ c.loop-interval.invariant.found c.loop-interval-test.true refl c.push_gap.ensures.fits c.in_ok-push_gap.ensures.gap (omega (arith, ints));
   filled = omega (arith, ints);
-  high = c.loop-interval.invariant.high
+  high = c.loop-interval.invariant.high;
 }
 
 at_top : (c : goal.Then-interval-eq9223372036854775807) → AreGaps c.args.intervals.now c.push_gap.new.list.items

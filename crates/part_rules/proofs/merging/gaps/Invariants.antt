@@ -6,5 +6,5 @@ abbrev pub invariant-loop-interval : goal.invariant-loop-interval
 invariant-loop-interval l = record {
   found : Gaps l.intervals l.list.items l.rest.low l.interval-index;
   filled : l.rest.low ≤ℤ l.rest.high;
-  high : l.rest.high ≡ greatest_key
+  high : l.rest.high ≡ greatest_key;
 }

@@ -11,7 +11,7 @@ loop-next-preserved-in-Some c =
       rises = rw c.in-Some.ensures.one.0 c.loop-next.invariant.rises;
       filled = c.in-Some.ensures.one.1;
       ascends = rw c.in-Some.ensures.one.0 (Ascends-earlier _ _ _ step.2 step.0);
-      keys = λ key. joined-united c.loop-next.list.items c.loop-next.current c.in-Some.both no_interval c.args.others.now c.loop-next.next-index key c.loop-next-test.true (c.in-Some.ensures.keys key) ∙ c.loop-next.invariant.keys key
+      keys = λ key. joined-united c.loop-next.list.items c.loop-next.current c.in-Some.both no_interval c.args.others.now c.loop-next.next-index key c.loop-next-test.true (c.in-Some.ensures.keys key) ∙ c.loop-next.invariant.keys key;
     }
 
 pub loop-next-preserved : goal.loop-next-preserved
@@ -22,7 +22,7 @@ loop-next-preserved c =
       rises = rw c.in_ok-push.ensures.items (RisesTo-later c.args.first.now.low _ (c.loop-next.current.high +ℤ pos 2) _ pushed c.in_default.ensures.apart);
       filled = step.1;
       ascends = step.2;
-      keys = λ key. joined-apart c.loop-next.list.items c.push.new.self.items c.loop-next.current no_interval c.args.others.now c.loop-next.next-index key c.loop-next-test.true c.in_ok-push.ensures.items ∙ c.loop-next.invariant.keys key
+      keys = λ key. joined-apart c.loop-next.list.items c.push.new.self.items c.loop-next.current no_interval c.args.others.now c.loop-next.next-index key c.loop-next-test.true c.in_ok-push.ensures.items ∙ c.loop-next.invariant.keys key;
     }
 
 pub returns-clause-normal : goal.returns-clause-normal

@@ -9,5 +9,5 @@ invariant-loop-next l = record {
   rises : RisesTo l.first.low l.list.items l.current.low;
   filled : l.current.low ≤ℤ l.current.high;
   ascends : Ascends l.current.low (drop l.next-index l.others);
-  keys : (key : ℤ) → has_key (l.list.items ++ l.current ∷ drop l.next-index l.others) key ≡ has_key (l.first ∷ l.others) key
+  keys : (key : ℤ) → has_key (l.list.items ++ l.current ∷ drop l.next-index l.others) key ≡ has_key (l.first ∷ l.others) key;
 }

@@ -10,9 +10,9 @@ returns-then-next-current-3-clause-keys c = λ key.
     let low : FitsSigned w64 c.args.current.now.low = search rules in
     let high : FitsSigned w64 c.args.next.now.high = search rules in
     let near : c.args.next.now.low ≤ℤ (c.args.current.now.high +ℤ pos 1) =
-      elim c.else-next-current.branch [
-        else-next-current-via-then-next-current+else-next-current-2 w ↦ omega (arith, ints)
-        | else-next-current-via-else-next-current w ↦ omega (arith, ints)
-      ] in
+    elim c.else-next-current.branch [
+      | else-next-current-via-then-next-current+else-next-current-2 w ↦ omega (arith, ints)
+      | else-next-current-via-else-next-current w ↦ omega (arith, ints)
+    ] in
     rw (to_z-of_z w64 c.args.current.now.low low, to_z-of_z w64 c.args.next.now.high high)
     (within_later c.args.current.now.low c.args.current.now.high c.args.next.now.low c.args.next.now.high key c.requires.ascending near (omega (arith, ints)))

@@ -26,7 +26,7 @@ loop-interval-preserved c =
     let same : length c.mark_hashes.new.marks ≡ length c.loop-interval.marks.items = search rules in
     record {
       count = Stepped-count c.loop-interval.marks.len _ c.loop-interval.marks.items c.mark_hashes.new.marks len same c.loop-interval.invariant.count;
-      marks = Stepped-more _ c.args.keys.now c.loop-interval.interval-index c.loop-interval.marks.len no_interval c.loop-interval.marks.items _ c.mark_hashes.new.marks c.loop-interval-test.true c.loop-interval.invariant.marks c.deref_mut.ensures.value c.mark_hashes.ensures len same
+      marks = Stepped-more _ c.args.keys.now c.loop-interval.interval-index c.loop-interval.marks.len no_interval c.loop-interval.marks.items _ c.mark_hashes.new.marks c.loop-interval-test.true c.loop-interval.invariant.marks c.deref_mut.ensures.value c.mark_hashes.ensures len same;
     }
 
 pub returns-clause-marks : goal.returns-clause-marks

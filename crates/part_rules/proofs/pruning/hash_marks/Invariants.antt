@@ -6,5 +6,5 @@ use Rattle.part_rules.proofs.pruning.hash_marks.Given as goal
 abbrev pub invariant-loop-interval : goal.invariant-loop-interval
 invariant-loop-interval l = record {
   count : length l.marks.items ≡ l.parts;
-  marks : AreMarks (λ key. Some (hash_part l.parts key)) (take l.interval-index l.keys) l.marks.items
+  marks : AreMarks (λ key. Some (hash_part l.parts key)) (take l.interval-index l.keys) l.marks.items;
 }

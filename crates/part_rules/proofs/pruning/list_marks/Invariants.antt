@@ -6,5 +6,5 @@ use Rattle.part_rules.proofs.pruning.list_marks.Given as goal
 abbrev pub invariant-loop-interval : goal.invariant-loop-interval
 invariant-loop-interval l = record {
   count : length l.marks.items ≡ length l.lists;
-  marks : AreMarks (list_part l.lists) (take l.interval-index l.keys) l.marks.items
+  marks : AreMarks (list_part l.lists) (take l.interval-index l.keys) l.marks.items;
 }

@@ -18,5 +18,5 @@ pub returns-2 : goal.returns-2
 returns-2 c =
     Marks-below _ c.args.interval.now _ c.args.marks.now _
     (MarksBelow-more _ c.args.interval.now _ _ c.hash_of.result c.args.marks.now c.loop-key.marks _ c.loop-key.invariant
-      (omega (arith, ints)) refl (ap (λ (n : ℕ). Some n) (sym c.hash_of.ensures.value)) (omega (arith, c.hash_of.ensures.within)) refl)
+    (omega (arith, ints)) refl (ap (λ (n : ℕ). Some n) (sym c.hash_of.ensures.value)) (omega (arith, c.hash_of.ensures.within)) refl)
     (omega (arith, ints))
