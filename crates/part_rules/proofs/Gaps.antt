@@ -1,4 +1,4 @@
-use Rattle.std.proofs.Common.{◌≡◌, ℕ, ◌+◌, ◌-◌, ◌^◌, ◌<◌, ◌≤◌, ℤ, pos, negsuc, ◌+ℤ◌, ◌-ℤ◌, ◌≤ℤ◌, ◌<ℤ◌, Bool, true, false, not, ◌||◌, ◌&&◌, List, [], ◌∷◌, ◌++◌, length, drop, get_or, refl, arith, ap, ◌∙◌, sym, FitsSigned}
+use Rattle.std.proofs.Common.{◌≡◌, ℕ, ◌+◌, ◌-◌, ◌^◌, ◌<◌, ◌≤◌, ℤ, pos, negsuc, ◌+ℤ◌, ◌-ℤ◌, ◌≤ℤ◌, ◌<ℤ◌, Bool, true, false, not, ◌||◌, ◌&&◌, List, [], ◌∷◌, ◌++◌, length, drop, get_or, refl, arith, ◌∙◌, FitsSigned}
 use Rattle.std.specs.Prelude.{int_le, int_lt}
 use Rattle.std.specs.Int.{w64}
 use Rattle.std.proofs.lemmas.Int.{ints, by_lt_z}
@@ -8,7 +8,7 @@ use Rattle.std.proofs.lemmas.List.Folds.{list_any-append}
 use Rattle.sql_values.specs.declared.places.Interval.{Interval}
 use Rattle.part_rules.specs.KeySets.{has_key, is_within, RisesFrom, IsNormal}
 use Rattle.part_rules.specs.Merging.{with_gap}
-use Rattle.part_rules.proofs.KeyLists.{RisesTo, RisesTo-push, RisesTo-later, RisesFrom-step, RisesFrom-earlier, IsNormal-of, has_key-before, no_interval}
+use Rattle.part_rules.proofs.KeyLists.{RisesTo, RisesTo-push, RisesTo-later, RisesFrom-earlier, IsNormal-of, has_key-before, no_interval}
 
 -- the ends of a BIGINT
 abbrev pub least_key : ℤ

@@ -1,12 +1,12 @@
 -- By HASH: so many keys in a row lie in all partitions.
-use Rattle.std.proofs.Common.{◌≡◌, ℕ, suc, zero, ◌+◌, ◌-◌, ◌*◌, ◌/◌, ◌%◌, ◌<◌, ◌≤◌, ℤ, pos, negsuc, ◌+ℤ◌, ◌-ℤ◌, ◌≤ℤ◌, neg_ℤ, Bool, true, false, List, [], ◌∷◌, length, get_or, replicate, Some, Option, refl, arith, inl, inr, sym, ◌∙◌, ap, subst}
-use Rattle.std.specs.Prelude.{unsigned_abs, int_rem}
+use Rattle.std.proofs.Common.{◌≡◌, ℕ, suc, zero, ◌+◌, ◌-◌, ◌*◌, ◌/◌, ◌%◌, ◌<◌, ◌≤◌, ℤ, pos, negsuc, ◌+ℤ◌, ◌-ℤ◌, ◌≤ℤ◌, neg_ℤ, Bool, true, false, List, [], ◌∷◌, length, get_or, replicate, Some, refl, arith, inl, inr, ◌∙◌, ap, subst}
+use Rattle.std.specs.Prelude.{unsigned_abs}
 use Rattle.std.proofs.lemmas.Bool.{both_ways, cases_lt}
 use Rattle.std.proofs.lemmas.Int.{ints}
 use Rattle.std.proofs.lemmas.Nat.{mod-mul-add, div-add-mod', mod_below}
 use Rattle.std.proofs.lemmas.List.Folds.{list_any_at}
 use Rattle.sql_values.specs.declared.places.Interval.{Interval}
-use Rattle.part_rules.specs.KeySets.{has_key, is_within, IsNormal, RisesFrom}
+use Rattle.part_rules.specs.KeySets.{is_within, IsNormal, RisesFrom}
 use Rattle.part_rules.specs.Rules.{hash_part}
 use Rattle.part_rules.specs.Marking.{IsMarked, AreMarks}
 use Rattle.part_rules.proofs.Marks.{within_from, all_marked}

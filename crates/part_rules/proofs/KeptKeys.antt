@@ -1,5 +1,5 @@
 -- A row on which a condition holds has a key that the condition keeps.
-use Rattle.std.proofs.Common.{◌≡◌, ℕ, suc, zero, ℤ, Bool, true, false, not, ◌||◌, ◌&&◌, cond, List, [], ◌∷◌, map, find, Option, Some, None, refl, arith, ap, sym, ◌∙◌, inl, inr, subst, nat_eq}
+use Rattle.std.proofs.Common.{◌≡◌, ℕ, suc, zero, ℤ, Bool, true, false, not, ◌||◌, ◌&&◌, cond, List, [], ◌∷◌, map, find, Option, Some, None, refl, arith, sym, ◌∙◌, inl, inr, subst, nat_eq}
 use Rattle.std.specs.Prelude.{slice_get}
 use Rattle.std.specs.List.{list_all, list_any, zip}
 use Rattle.std.specs.Option.{option_map, option_map_or}
@@ -18,7 +18,7 @@ use Rattle.sql_values.specs.declared.tree.Comparison.TheVariants.{Equal, NotEqua
 use Rattle.sql_values.specs.declared.tree.Operand.{Operand}
 use Rattle.sql_values.specs.declared.tree.Operand.TheVariants as operand
 use Rattle.sql_values.specs.declared.tree.Cond.{Cond, Cond-F, map-Cond, roll-Cond}
-use Rattle.sql_values.specs.declared.tree.Cond.TheFolds.{fold-Cond, ind-Cond, fold-roll-Cond}
+use Rattle.sql_values.specs.declared.tree.Cond.TheFolds.{ind-Cond, fold-roll-Cond}
 use Rattle.sql_values.specs.declared.tree.Cond.TheOpen.{All, Any, Not, Compare, In, Between}
 use Rattle.sql_values.specs.declared.value.Value.{Value}
 use Rattle.sql_values.specs.declared.value.Value.TheVariants as value

@@ -1,4 +1,4 @@
-use Rattle.std.proofs.Common.{ℕ, ◌+◌, ◌<◌, ◌&&◌, length, drop, get_or, append_assoc, ◌≡◌, ℤ, pos, ◌+ℤ◌, ◌-ℤ◌, ◌≤ℤ◌, ◌<ℤ◌, Bool, true, false, not, ◌||◌, List, [], ◌∷◌, ◌++◌, refl, arith, ◌⊎◌, inl, inr, ap, ◌∙◌, sym, FitsSigned}
+use Rattle.std.proofs.Common.{ℕ, ◌+◌, ◌<◌, ◌&&◌, length, drop, get_or, append_assoc, ◌≡◌, ℤ, pos, ◌+ℤ◌, ◌≤ℤ◌, ◌<ℤ◌, true, false, ◌||◌, List, [], ◌∷◌, ◌++◌, refl, arith, ◌⊎◌, inl, inr, ap}
 use Rattle.std.specs.Prelude.{int_le}
 use Rattle.std.proofs.lemmas.Int.{ints, by_lt_z}
 use Rattle.std.proofs.lemmas.List.{drop_more}

@@ -1,10 +1,10 @@
 -- The keys of single tests, and of conditions part by part.
-use Rattle.std.proofs.Common.{◌≡◌, ℕ, suc, zero, ◌+◌, ◌-◌, ◌^◌, ◌<◌, ◌≤◌, ℤ, pos, negsuc, neg_ℤ, ◌+ℤ◌, ◌≤ℤ◌, ◌<ℤ◌, Bool, true, false, not, ◌||◌, ◌&&◌, List, [], ◌∷◌, ◌++◌, map, length, drop, get_or, refl, arith, ap, sym, ◌∙◌, FitsSigned, IfOk, Result}
+use Rattle.std.proofs.Common.{◌≡◌, ℕ, ◌+◌, ◌-◌, ◌^◌, ◌<◌, ◌≤◌, ℤ, pos, neg_ℤ, ◌+ℤ◌, ◌≤ℤ◌, Bool, true, false, not, ◌||◌, ◌&&◌, List, [], ◌∷◌, ◌++◌, map, length, drop, get_or, refl, arith, ◌∙◌, FitsSigned, IfOk, Result}
 use Rattle.std.specs.Prelude.{int_le}
 use Rattle.std.specs.Int.{w64}
 use Rattle.std.specs.declared.alloc.AllocError.{AllocError}
 use Rattle.std.specs.List.{list_all, list_any}
-use Rattle.std.specs.Ordering.{int_cmp, is_le, is_lt, is_gt, is_ge, is_eq}
+use Rattle.std.specs.Ordering.{int_cmp, is_le, is_lt, is_gt, is_eq}
 use Rattle.std.proofs.lemmas.Int.{ints, by_lt_z}
 use Rattle.std.proofs.lemmas.Result.{IfOk-weaker}
 use Rattle.std.proofs.lemmas.List.{drop_more, drop_all}
@@ -12,7 +12,7 @@ use Rattle.std.proofs.lemmas.List.Folds.{list_any-append}
 use Rattle.sql_values.specs.declared.literal.Literal.{Literal}
 use Rattle.sql_values.specs.declared.literal.Literal.TheVariants as literal
 use Rattle.sql_values.specs.declared.places.Interval.{Interval}
-use Rattle.sql_values.specs.declared.tree.Comparison.TheVariants.{Equal, AtMost}
+use Rattle.sql_values.specs.declared.tree.Comparison.TheVariants.{Equal}
 use Rattle.sql_values.specs.declared.tree.Cond.{Cond}
 use Rattle.sql_values.specs.Conditions.{compares}
 use Rattle.part_rules.specs.KeySets.{AreKeys, has_key, is_within}

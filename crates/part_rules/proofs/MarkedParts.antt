@@ -1,5 +1,5 @@
 -- The places of marks, as a rising list.
-use Rattle.std.proofs.Common.{◌≡◌, ℕ, suc, zero, ◌+◌, ◌<◌, ◌≤◌, ℤ, Bool, true, false, not, ◌||◌, ◌&&◌, List, [], ◌∷◌, length, get_or, Some, None, Option, refl, arith, ◌⊎◌, inl, inr, sym, ◌∙◌, ap, subst, add-zero, zero-add, add-one}
+use Rattle.std.proofs.Common.{◌≡◌, ℕ, suc, zero, ◌+◌, ◌<◌, ◌≤◌, Bool, true, false, not, List, [], ◌∷◌, length, get_or, Some, refl, arith, ◌⊎◌, inl, inr, ap, subst, add-zero, zero-add, add-one}
 use Rattle.std.specs.List.{Contains}
 use Rattle.std.specs.List.Sorted.{IsStrictlyIncreasing}
 use Rattle.std.proofs.lemmas.Bool.{both_ways, cases_Bool, not_from_true, not-false}
@@ -7,9 +7,9 @@ use Rattle.std.proofs.lemmas.Int.{ints}
 use Rattle.sql_values.specs.declared.places.Interval.{Interval}
 use Rattle.part_rules.specs.declared.rule.Rule.{Rule}
 use Rattle.part_rules.specs.declared.rule.Rule.TheVariants.{Whole}
-use Rattle.part_rules.specs.KeySets.{has_key, IsNormal}
+use Rattle.part_rules.specs.KeySets.{IsNormal}
 use Rattle.part_rules.specs.Placing.{part}
-use Rattle.part_rules.specs.Pruned.{IsPruned, Owns}
+use Rattle.part_rules.specs.Pruned.{IsPruned}
 use Rattle.part_rules.specs.Marking.{IsMarked, AreMarks, marked_from}
 use Rattle.part_rules.proofs.ListMarks.{first_in, later_in}
 use Rattle.part_rules.proofs.OneList.{at_first}

@@ -1,10 +1,10 @@
-use Rattle.std.proofs.Common.{◌≡◌, ℤ, pos, ◌+ℤ◌, ◌≤ℤ◌, ◌<ℤ◌, Bool, true, false, ◌||◌, ◌&&◌, List, [], ◌∷◌, refl, arith, ap, sym, subst, ◌∙◌, FitsSigned}
+use Rattle.std.proofs.Common.{◌≡◌, ℤ, pos, ◌+ℤ◌, ◌≤ℤ◌, ◌<ℤ◌, true, false, List, [], ◌∷◌, refl, arith, ap, sym, subst, ◌∙◌, FitsSigned}
 use Rattle.std.specs.Prelude.{int_le}
 use Rattle.std.specs.Int.{w64}
 use Rattle.std.proofs.lemmas.Bool.{false≢true}
 use Rattle.std.proofs.lemmas.Int.{ints, by_lt_z}
 use Rattle.sql_values.specs.declared.places.Interval.{Interval}
-use Rattle.part_rules.specs.KeySets.{has_key, is_within, RisesFrom, IsNormal, AreBigInts, HaveSameKeys}
+use Rattle.part_rules.specs.KeySets.{has_key, RisesFrom, IsNormal, AreBigInts, HaveSameKeys}
 use Rattle.part_rules.proofs.KeyLists.{has_key-before, RisesFrom-earlier}
 
 -- a key of the first interval is in the set

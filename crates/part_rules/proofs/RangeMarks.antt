@@ -1,11 +1,10 @@
 -- By RANGE: the marks are those of the partitions of the set's keys.
-use Rattle.std.proofs.Common.{◌≡◌, ℕ, suc, zero, ◌+◌, ◌<◌, ◌≤◌, ℤ, pos, ◌+ℤ◌, ◌≤ℤ◌, ◌<ℤ◌, Bool, true, false, not, ◌||◌, ◌&&◌, cond, List, [], ◌∷◌, ◌++◌, length, drop, get_or, Some, None, refl, arith, inl, inr, sym, ◌∙◌, subst}
-use Rattle.std.specs.Prelude.{int_lt, int_le}
+use Rattle.std.proofs.Common.{◌≡◌, ℕ, suc, zero, ◌<◌, ◌≤◌, ℤ, pos, ◌+ℤ◌, ◌≤ℤ◌, ◌<ℤ◌, Bool, true, false, List, [], ◌∷◌, ◌++◌, length, drop, get_or, Some, refl, arith, inl, inr, sym, ◌∙◌, subst}
+use Rattle.std.specs.Prelude.{int_le}
 use Rattle.std.specs.List.Sorted.{IsPartitionedBy, IsPartitionPoint}
-use Rattle.std.proofs.lemmas.Bool.{and_parts, cases_Bool, both_ways, cond-true, cond-false, or_cases}
+use Rattle.std.proofs.lemmas.Bool.{and_parts, cases_Bool, both_ways}
 use Rattle.std.proofs.lemmas.Int.{ints, by_lt_z}
 use Rattle.std.proofs.lemmas.List.{drop_all, append-nil}
-use Rattle.std.proofs.lemmas.List.Quantifiers.{position-Some}
 use Rattle.sql_values.specs.declared.places.Interval.{Interval}
 use Rattle.part_rules.specs.declared.bounds.Bound.{Bound}
 use Rattle.part_rules.specs.declared.bounds.Bound.TheVariants.{Below, MaxValue}

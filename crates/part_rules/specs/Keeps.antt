@@ -1,5 +1,5 @@
 -- What a condition says of the key column: the keys that a row may have for which it holds.
-use Rattle.std.specs.Prelude.{ℕ, ℤ, Bool, true, false, ◌||◌, ◌&&◌, not, List, slice_get}
+use Rattle.std.specs.Prelude.{ℤ, Bool, true, false, ◌||◌, ◌&&◌, not, List, slice_get}
 use Rattle.std.specs.List.{list_all, list_any}
 use Rattle.std.specs.Option.{option_map_or}
 use Rattle.sql_values.specs.declared.literal.Literal.{Literal}

@@ -1,5 +1,5 @@
 -- Marks of partitions, from which those that a set of keys needs are read.
-use Rattle.std.specs.Prelude.{◌≡◌, ℕ, ◌+◌, ℤ, Bool, true, false, not, List, [], ◌∷◌, Option, Some, ◌⊎◌, slice_index_or, if◌then◌else◌}
+use Rattle.std.specs.Prelude.{◌≡◌, ℕ, ◌+◌, ℤ, Bool, true, false, List, [], ◌∷◌, Option, Some, ◌⊎◌, slice_index_or, if◌then◌else◌}
 use Rattle.sql_values.specs.declared.places.Interval.{Interval}
 use Rattle.part_rules.specs.declared.bounds.Bound.{Bound}
 use Rattle.part_rules.specs.KeySets.{has_key, is_within}

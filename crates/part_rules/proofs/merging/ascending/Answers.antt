@@ -1,7 +1,4 @@
-use Rattle.std.proofs.Common.{◌≡◌, rules}
-use Rattle.std.specs.List.{filter}
-use Rattle.std.specs.List.Sorted.{IsSortedByKey}
-use Rattle.std.specs.Ordering.{int_cmp}
+use Rattle.std.proofs.Common.{rules}
 use Rattle.std.proofs.lemmas.Fn.{filter_same, always_returns_same}
 use Rattle.part_rules.proofs.Ascending.{is_filled, IsAscending-sorted, has_key-sorted}
 use Rattle.part_rules.proofs.merging.ascending.Goals as goal

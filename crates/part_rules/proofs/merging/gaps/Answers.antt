@@ -1,5 +1,4 @@
-use Rattle.std.proofs.Common.{rules, arith, refl, FitsSigned}
-use Rattle.std.specs.Int.{w64}
+use Rattle.std.proofs.Common.{arith, refl}
 use Rattle.std.proofs.lemmas.Int.{ints}
 use Rattle.part_rules.proofs.Gaps.{Gaps-more, AreGaps-at_top, AreGaps-at_end, AreGaps}
 use Rattle.part_rules.proofs.merging.gaps.Goals as goal

@@ -1,6 +1,5 @@
-use Rattle.std.proofs.Common.{ℤ, pos, ◌≤ℤ◌, ◌+ℤ◌, length, drop, get_or, ◌∙◌, arith}
+use Rattle.std.proofs.Common.{pos, ◌+ℤ◌, ◌∙◌, arith}
 use Rattle.std.proofs.lemmas.Int.{ints}
-use Rattle.part_rules.specs.Merging.{Ascends}
 use Rattle.part_rules.proofs.KeyLists.{Ascends-step, Ascends-earlier, RisesTo-push, RisesTo-later, IsNormal-of, joined-united, joined-apart, no_interval}
 use Rattle.part_rules.proofs.merging.joined_from.Goals as goal
 

@@ -1,6 +1,6 @@
-use Rattle.std.proofs.Common.{ℕ, ◌≡◌, ◌*◌, ◌-◌, ◌≤◌, ◌-ℤ◌, ◌≤ℤ◌, get_or, w64, SFits, length, rules, arith, Some, Ok, true, replicate}
+use Rattle.std.proofs.Common.{◌≡◌, ◌*◌, ◌-◌, ◌-ℤ◌, ◌≤ℤ◌, get_or, w64, SFits, length, rules, arith}
 use Rattle.std.specs.Prelude.{unsigned_abs}
-use Rattle.std.proofs.lemmas.Int.{ints, to_z-of_z}
+use Rattle.std.proofs.lemmas.Int.{to_z-of_z}
 use Rattle.part_rules.proofs.KeyLists.{no_interval}
 use Rattle.part_rules.proofs.Marks.{Stepped-more, Stepped-count, AreMarks-whole}
 use Rattle.part_rules.proofs.HashMarks.{filled_at, AreMarks-full, is_long}

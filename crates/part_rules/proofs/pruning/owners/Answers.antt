@@ -1,4 +1,4 @@
-use Rattle.std.proofs.Common.{◌≡◌, refl, ◌∙◌}
+use Rattle.std.proofs.Common.{refl, ◌∙◌}
 use Rattle.part_rules.proofs.MarkedParts.{AreMarks-by_whole}
 use Rattle.part_rules.proofs.pruning.owners.Goals as goal
 

@@ -1,6 +1,4 @@
-use Rattle.std.proofs.Common.{◌≡◌, ◌≤◌, ◌<◌, rules, not, length, sym, ◌∙◌}
-use Rattle.std.specs.List.{position_or_len}
-use Rattle.std.specs.List.Sorted.{IsPartitionPoint}
+use Rattle.std.proofs.Common.{◌≤◌, ◌<◌, rules, not, length, sym}
 use Rattle.std.proofs.lemmas.Fn.{always_returns_same}
 use Rattle.part_rules.specs.Rules.{is_below}
 use Rattle.part_rules.proofs.Positions.{position_of_point, position-here, position-nowhere}

@@ -1,4 +1,4 @@
-use Rattle.std.proofs.Common.{◌≡◌, ℕ, ℤ, ◌<◌, List, rules, arith, refl, sym, ◌∙◌, w64, SFits, length}
+use Rattle.std.proofs.Common.{◌≡◌, ◌<◌, rules, arith, refl, ◌∙◌, w64, SFits, length}
 use Rattle.std.specs.Ordering.{int_cmp}
 use Rattle.std.specs.declared.ops.Bound.TheVariants.{Included}
 use Rattle.std.specs.BTreeMap.Range.{entries_between}
