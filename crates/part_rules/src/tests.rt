@@ -84,37 +84,45 @@ fn prunes(alloc: Global, rule: &Rule, keys: &Intervals, parts: &[u32]) -> Result
     Ok(prune(alloc, rule, keys)?.as_slice() == parts)
 }
 
+/// The keys have these partitions.
+fn places(rule: &Rule, cases: &[(i64, Option<u32>)]) -> bool {
+    for (key, part) in cases {
+        if place(rule, *key) != *part {
+            return false;
+        }
+    }
+    true
+}
+
 #[test]
 fn keys_have_partitions(rt: HostRuntime) -> Result<(), Fail> {
     let alloc = rt.alloc();
-    let range = range(alloc, &[MIN, -5, 10, 20], false)?.ok_or("rising")?;
-    let open = self::range(alloc, &[10], true)?.ok_or("rising")?;
-    let list = lists(alloc, &[5, MIN], &[2, MAX, 2])?;
-    let hash = Rule::Hash(4);
-    let thirds = Rule::Hash(3);
+    let rule = range(alloc, &[MIN, -5, 10, 20], false)?.ok_or("rising")?;
     let cases = [
-        (&Rule::Whole, MIN, Some(0)),
-        (&range, MIN, Some(1)),
-        (&range, -6, Some(1)),
-        (&range, -5, Some(2)),
-        (&range, 19, Some(3)),
-        (&range, 20, None),
-        (&open, 9, Some(0)),
-        (&open, 10, Some(1)),
-        (&open, MAX, Some(1)),
-        (&list, MIN, Some(0)),
-        (&list, 2, Some(1)),
-        (&list, MAX, Some(1)),
-        (&list, 3, None),
-        (&hash, 7, Some(3)),
-        (&hash, -7, Some(3)),
-        (&hash, MIN, Some(0)),
-        (&thirds, MIN, Some(2)),
-        (&thirds, MAX, Some(1)),
+        (MIN, Some(1)),
+        (-6, Some(1)),
+        (-5, Some(2)),
+        (19, Some(3)),
+        (20, None),
     ];
-    for (rule, key, part) in cases {
-        assert_eq!(rt; place(rule, key), part, "{key}");
-    }
+    assert!(rt; places(&rule, &cases));
+    let rule = range(alloc, &[10], true)?.ok_or("rising")?;
+    assert!(rt; places(&rule, &[(9, Some(0)), (10, Some(1)), (MAX, Some(1))]));
+    let rule = lists(alloc, &[5, MIN], &[2, MAX, 2])?;
+    assert!(rt;
+        places(
+            &rule,
+            &[(MIN, Some(0)), (2, Some(1)), (MAX, Some(1)), (3, None)]
+        )
+    );
+    assert!(rt;
+        places(
+            &Rule::Hash(4),
+            &[(7, Some(3)), (-7, Some(3)), (MIN, Some(0))]
+        )
+    );
+    assert!(rt; places(&Rule::Hash(3), &[(MIN, Some(2)), (MAX, Some(1))]));
+    assert!(rt; places(&Rule::Whole, &[(MIN, Some(0))]));
     Ok(())
 }
 
@@ -133,59 +141,106 @@ fn bounds_rise(rt: HostRuntime) -> Result<(), Fail> {
     Ok(())
 }
 
+fn is_joined(
+    alloc: Global,
+    pairs: &[(i64, i64)],
+    joined: &[(i64, i64)],
+) -> Result<bool, AllocError> {
+    Ok(is_set(&set(alloc, pairs)?, joined))
+}
+
+fn has_gaps(alloc: Global, pairs: &[(i64, i64)], gaps: &[(i64, i64)]) -> Result<bool, AllocError> {
+    Ok(is_set(&set(alloc, pairs)?.complement(alloc)?, gaps))
+}
+
+fn meets_in(
+    alloc: Global,
+    left: &[(i64, i64)],
+    right: &[(i64, i64)],
+    both: &[(i64, i64)],
+) -> Result<bool, AllocError> {
+    Ok(is_set(&set(alloc, left)?.meet(alloc, &set(alloc, right)?)?, both))
+}
+
+fn joins_to(
+    alloc: Global,
+    left: &[(i64, i64)],
+    right: &[(i64, i64)],
+    all: &[(i64, i64)],
+) -> Result<bool, AllocError> {
+    Ok(is_set(&set(alloc, left)?.join(alloc, &set(alloc, right)?)?, all))
+}
+
+fn has_all(alloc: Global) -> Result<bool, AllocError> {
+    Ok(is_set(&Intervals::whole(alloc)?, &[(MIN, MAX)]) && Intervals::none(alloc).is_empty())
+}
+
 #[test]
 fn sets_are_in_normal_form(rt: HostRuntime) -> Result<(), Fail> {
     let alloc = rt.alloc();
-    let all = Intervals::whole(alloc)?;
-    let none = Intervals::none(alloc);
-    assert!(rt; is_set(&all, &[(MIN, MAX)]));
-    assert!(rt; none.is_empty());
-    let some = set(
-        alloc,
-        &[(7, 9), (5, 4), (1, 2), (3, 3), (8, 12), (MAX, MAX)],
-    )?;
-    assert!(rt; is_set(&some, &[(1, 3), (7, 12), (MAX, MAX)]));
-    assert!(rt; is_set(&some.complement(alloc)?, &[(MIN, 0), (4, 6), (13, MAX - 1)]));
-    assert!(rt; is_set(&all.complement(alloc)?, &[]));
-    assert!(rt; is_set(&none.complement(alloc)?, &[(MIN, MAX)]));
-    let other = set(alloc, &[(MIN, 1), (3, 8), (13, 20)])?;
-    assert!(rt; is_set(&some.meet(alloc, &other)?, &[(1, 1), (3, 3), (7, 8)]));
-    assert!(rt; is_set(&some.join(alloc, &other)?, &[(MIN, 20), (MAX, MAX)]));
+    let some = [(1, 3), (7, 12), (MAX, MAX)];
+    let other = [(MIN, 1), (3, 8), (13, 20)];
+    let given = [(7, 9), (5, 4), (1, 2), (3, 3), (8, 12), (MAX, MAX)];
+    assert!(rt; is_joined(alloc, &given, &some)?);
+    assert!(rt; has_gaps(alloc, &some, &[(MIN, 0), (4, 6), (13, MAX - 1)])?);
+    assert!(rt; has_gaps(alloc, &[(MIN, MAX)], &[])?);
+    assert!(rt; has_gaps(alloc, &[], &[(MIN, MAX)])?);
+    assert!(rt; meets_in(alloc, &some, &other, &[(1, 1), (3, 3), (7, 8)])?);
+    assert!(rt; joins_to(alloc, &some, &other, &[(MIN, 20), (MAX, MAX)])?);
+    assert!(rt; has_all(alloc)?);
+    Ok(())
+}
+
+fn prunes_to(
+    alloc: Global,
+    rule: &Rule,
+    pairs: &[(i64, i64)],
+    parts: &[u32],
+) -> Result<bool, AllocError> {
+    prunes(alloc, rule, &set(alloc, pairs)?, parts)
+}
+
+const ALL: [(i64, i64); 1] = [(MIN, MAX)];
+
+const ENDS: [(i64, i64); 2] = [(MIN, MIN), (MAX, MAX)];
+
+const MIDDLE: [(i64, i64); 2] = [(3, 4), (6, 9)];
+
+const POINT: [(i64, i64); 1] = [(-1, -1)];
+
+#[test]
+fn ranges_are_pruned(rt: HostRuntime) -> Result<(), Fail> {
+    let alloc = rt.alloc();
+    let rule = range(alloc, &[MIN, 0, 10, 20], true)?.ok_or("rising")?;
+    assert!(rt; prunes_to(alloc, &rule, &[], &[])?);
+    assert!(rt; prunes_to(alloc, &rule, &ALL, &[1, 2, 3, 4])?);
+    assert!(rt; prunes_to(alloc, &rule, &POINT, &[1])?);
+    assert!(rt; prunes_to(alloc, &rule, &ENDS, &[1, 4])?);
+    assert!(rt; prunes_to(alloc, &rule, &MIDDLE, &[2])?);
     Ok(())
 }
 
 #[test]
-fn partitions_are_pruned(rt: HostRuntime) -> Result<(), Fail> {
+fn lists_are_pruned(rt: HostRuntime) -> Result<(), Fail> {
     let alloc = rt.alloc();
-    let range = range(alloc, &[MIN, 0, 10, 20], true)?.ok_or("rising")?;
-    let list = lists(alloc, &[5, 9], &[2])?;
-    let hash = Rule::Hash(3);
-    let none = Intervals::none(alloc);
-    let all = Intervals::whole(alloc)?;
-    let point = set(alloc, &[(-1, -1)])?;
-    let ends = set(alloc, &[(MIN, MIN), (MAX, MAX)])?;
-    let middle = set(alloc, &[(3, 4), (6, 9)])?;
-    let row = set(alloc, &[(-2, 2)])?;
-    let cases = [
-        (&Rule::Whole, &none, [].as_slice()),
-        (&Rule::Whole, &point, [0].as_slice()),
-        (&range, &none, [].as_slice()),
-        (&range, &all, [1, 2, 3, 4].as_slice()),
-        (&range, &point, [1].as_slice()),
-        (&range, &ends, [1, 4].as_slice()),
-        (&range, &middle, [2].as_slice()),
-        (&list, &all, [0, 1].as_slice()),
-        (&list, &middle, [0].as_slice()),
-        (&list, &ends, [].as_slice()),
-        (&hash, &point, [1].as_slice()),
-        (&hash, &ends, [1, 2].as_slice()),
-        (&hash, &row, [0, 1, 2].as_slice()),
-        (&hash, &all, [0, 1, 2].as_slice()),
-        (&hash, &none, [].as_slice()),
-    ];
-    for (rule, keys, parts) in cases {
-        assert!(rt; prunes(alloc, rule, keys, parts)?);
-    }
+    let rule = lists(alloc, &[5, 9], &[2])?;
+    assert!(rt; prunes_to(alloc, &rule, &ALL, &[0, 1])?);
+    assert!(rt; prunes_to(alloc, &rule, &MIDDLE, &[0])?);
+    assert!(rt; prunes_to(alloc, &rule, &ENDS, &[])?);
+    assert!(rt; prunes_to(alloc, &Rule::Whole, &[], &[])?);
+    assert!(rt; prunes_to(alloc, &Rule::Whole, &POINT, &[0])?);
+    Ok(())
+}
+
+#[test]
+fn hashes_are_pruned(rt: HostRuntime) -> Result<(), Fail> {
+    let alloc = rt.alloc();
+    let rule = Rule::Hash(3);
+    assert!(rt; prunes_to(alloc, &rule, &[], &[])?);
+    assert!(rt; prunes_to(alloc, &rule, &ALL, &[0, 1, 2])?);
+    assert!(rt; prunes_to(alloc, &rule, &POINT, &[1])?);
+    assert!(rt; prunes_to(alloc, &rule, &ENDS, &[1, 2])?);
+    assert!(rt; prunes_to(alloc, &rule, &[(-2, 2)], &[0, 1, 2])?);
     Ok(())
 }
 
@@ -261,6 +316,46 @@ fn between(alloc: Global, text: &str, negated: bool, low: i128, high: i128) -> R
     })
 }
 
+fn has_keys(alloc: Global, cond: Result<Cond, Fail>, pairs: &[(i64, i64)]) -> Result<bool, Fail> {
+    Ok(is_set(&keys_of(alloc, &cond?, &table(alloc)?)?, pairs))
+}
+
+#[test]
+fn comparisons_have_keys(rt: HostRuntime) -> Result<(), Fail> {
+    let a = rt.alloc();
+    assert!(rt; has_keys(a, compare(a, "k", Comparison::Equal, 7), &[(7, 7)])?);
+    assert!(rt;
+        has_keys(
+            a,
+            compare(a, "k", Comparison::NotEqual, 7),
+            &[(MIN, 6), (8, MAX)]
+        )?
+    );
+    assert!(rt; has_keys(a, compare(a, "k", Comparison::Less, 7), &[(MIN, 6)])?);
+    assert!(rt; has_keys(a, compare(a, "k", Comparison::AtLeast, 1 << 63), &[])?);
+    assert!(rt; has_keys(a, compare(a, "k", Comparison::AtMost, 1 << 63), &ALL)?);
+    assert!(rt; has_keys(a, compare(a, "a", Comparison::Equal, 7), &ALL)?);
+    assert!(rt; has_keys(a, turned(a, 7, Comparison::Less, "k"), &[(8, MAX)])?);
+    Ok(())
+}
+
+#[test]
+fn lists_and_betweens_have_keys(rt: HostRuntime) -> Result<(), Fail> {
+    let a = rt.alloc();
+    assert!(rt;
+        has_keys(
+            a,
+            is_in(a, "k", false, &[3, 1, 1 << 64, 2, 9]),
+            &[(1, 3), (9, 9)]
+        )?
+    );
+    assert!(rt; has_keys(a, is_in(a, "k", true, &[3]), &ALL)?);
+    assert!(rt; has_keys(a, between(a, "k", false, 3, 5), &[(3, 5)])?);
+    assert!(rt; has_keys(a, between(a, "k", false, 5, 3), &[])?);
+    assert!(rt; has_keys(a, between(a, "k", true, 3, 5), &ALL)?);
+    Ok(())
+}
+
 fn pair(alloc: Global, first: Cond, second: Cond) -> Result<Items<Cond>, AllocError> {
     let mut parts = Vec::new(alloc);
     parts.push(first)?;
@@ -268,57 +363,44 @@ fn pair(alloc: Global, first: Cond, second: Cond) -> Result<Items<Cond>, AllocEr
     Ok(Items::from_vec(parts))
 }
 
-fn has_keys(alloc: Global, cond: Cond, pairs: &[(i64, i64)]) -> Result<bool, Fail> {
-    Ok(is_set(&keys_of(alloc, &cond, &table(alloc)?)?, pairs))
+/// The key column is below 7, and another test.
+fn both(alloc: Global, other: Result<Cond, Fail>) -> Result<Cond, Fail> {
+    let other = other?;
+    let low = compare(alloc, "k", Comparison::Less, 7)?;
+    Ok(Cond::All(pair(alloc, low, other)?))
 }
 
-#[test]
-fn tests_have_keys(rt: HostRuntime) -> Result<(), Fail> {
-    let a = rt.alloc();
-    let all = [(MIN, MAX)];
-    assert!(rt; has_keys(a, compare(a, "k", Comparison::Equal, 7)?, &[(7, 7)])?);
-    assert!(rt;
-        has_keys(
-            a,
-            compare(a, "k", Comparison::NotEqual, 7)?,
-            &[(MIN, 6), (8, MAX)]
-        )?
-    );
-    assert!(rt; has_keys(a, compare(a, "k", Comparison::Less, 7)?, &[(MIN, 6)])?);
-    assert!(rt; has_keys(a, compare(a, "k", Comparison::AtLeast, 1 << 63)?, &[])?);
-    assert!(rt; has_keys(a, compare(a, "k", Comparison::AtMost, 1 << 63)?, &all)?);
-    assert!(rt; has_keys(a, compare(a, "a", Comparison::Equal, 7)?, &all)?);
-    assert!(rt; has_keys(a, turned(a, 7, Comparison::Less, "k")?, &[(8, MAX)])?);
-    assert!(rt;
-        has_keys(
-            a,
-            is_in(a, "k", false, &[3, 1, 1 << 64, 2, 9])?,
-            &[(1, 3), (9, 9)]
-        )?
-    );
-    assert!(rt; has_keys(a, is_in(a, "k", true, &[3])?, &all)?);
-    assert!(rt; has_keys(a, between(a, "k", false, 3, 5)?, &[(3, 5)])?);
-    assert!(rt; has_keys(a, between(a, "k", false, 5, 3)?, &[])?);
-    assert!(rt; has_keys(a, between(a, "k", true, 3, 5)?, &all)?);
-    Ok(())
+/// The same with OR.
+fn either(alloc: Global, other: Result<Cond, Fail>) -> Result<Cond, Fail> {
+    let other = other?;
+    let low = compare(alloc, "k", Comparison::Less, 7)?;
+    Ok(Cond::Any(pair(alloc, low, other)?))
+}
+
+fn opposite(alloc: Global, cond: Result<Cond, Fail>) -> Result<Cond, Fail> {
+    Ok(Cond::Not(Boxed::new(alloc, cond?)?))
 }
 
 #[test]
 fn conditions_have_keys(rt: HostRuntime) -> Result<(), Fail> {
     let a = rt.alloc();
-    let low = || compare(a, "k", Comparison::Less, 7);
-    let high = || compare(a, "k", Comparison::Greater, 9);
-    let other = || compare(a, "a", Comparison::Equal, 1);
-    assert!(rt; has_keys(a, Cond::All(pair(a, low()?, high()?)?), &[])?);
+    let parts = [(MIN, 6), (10, MAX)];
+    assert!(rt; has_keys(a, both(a, compare(a, "k", Comparison::Greater, 9)), &[])?);
     assert!(rt;
         has_keys(
             a,
-            Cond::Any(pair(a, low()?, high()?)?),
-            &[(MIN, 6), (10, MAX)]
+            either(a, compare(a, "k", Comparison::Greater, 9)),
+            &parts
         )?
     );
-    assert!(rt; has_keys(a, Cond::All(pair(a, low()?, other()?)?), &[(MIN, 6)])?);
-    assert!(rt; has_keys(a, Cond::Any(pair(a, low()?, other()?)?), &[(MIN, MAX)])?);
-    assert!(rt; has_keys(a, Cond::Not(Boxed::new(a, low()?)?), &[(MIN, MAX)])?);
+    assert!(rt;
+        has_keys(
+            a,
+            both(a, compare(a, "a", Comparison::Equal, 1)),
+            &[(MIN, 6)]
+        )?
+    );
+    assert!(rt; has_keys(a, either(a, compare(a, "a", Comparison::Equal, 1)), &ALL)?);
+    assert!(rt; has_keys(a, opposite(a, compare(a, "k", Comparison::Less, 7)), &ALL)?);
     Ok(())
 }
