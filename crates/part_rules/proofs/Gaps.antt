@@ -8,7 +8,7 @@ use Rattle.std.proofs.lemmas.List.Folds.{list_any-append}
 use Rattle.sql_values.specs.declared.places.Interval.{Interval}
 use Rattle.part_rules.specs.KeySets.{has_key, is_within, RisesFrom, IsNormal}
 use Rattle.part_rules.specs.Merging.{with_gap}
-use Rattle.part_rules.proofs.KeyLists.{RisesTo, RisesTo-push, RisesTo-later, RisesFrom-earlier, IsNormal-of, has_key-before, no_interval}
+use Rattle.part_rules.proofs.KeyLists.{IsNormal-from, RisesTo, RisesTo-push, RisesTo-later, RisesFrom-earlier, IsNormal-of, has_key-before, no_interval}
 
 -- the ends of a BIGINT
 abbrev pub least_key : ℤ
@@ -92,16 +92,12 @@ ahead_of is list pushed low next i x gaps within is_x fits is_pushed is_next =
       keys = λ key fit. rw (is_pushed, is_next) (gap_keys list low x (drop (i + 1) is) key rises ∙ rw more at (gaps.keys key fit));
     }
 
-RisesFrom-normal : (low : ℤ) (is : List Interval) → RisesFrom low is → IsNormal is
-RisesFrom-normal low [] rises = tt
-RisesFrom-normal low (x ∷ is) rises = (omega (arith, ints), rises.1, rises.2)
-
 pub Gaps-more : (is list pushed : List Interval) (low next : ℤ) (i : ℕ) (x : Interval) → Gaps is list low i → i < length is → x ≡ get_or is i no_interval → FitsSigned w64 x.low → pushed ≡ with_gap list low x.low → next ≡ x.high +ℤ pos 1 → Gaps is pushed next (i + 1)
 Gaps-more is list pushed low next i x gaps within is_x fits is_pushed is_next =
     let ahead = ahead_of is list pushed low next i x gaps within is_x fits is_pushed is_next in
     record {
       rises = ahead.rises;
-      normal = RisesFrom-normal (x.high +ℤ pos 2) (drop (i + 1) is) ahead.rest;
+      normal = IsNormal-from (x.high +ℤ pos 2) (drop (i + 1) is) ahead.rest;
       ahead = λ l. RisesFrom-earlier (x.high +ℤ pos 2) next (drop (i + 1) is) ahead.rest (omega (arith, ints));
       keys = ahead.keys;
     }

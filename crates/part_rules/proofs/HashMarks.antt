@@ -1,12 +1,12 @@
 -- By HASH: so many keys in a row lie in all partitions.
-use Rattle.std.proofs.Common.{◌≡◌, ℕ, suc, zero, ◌+◌, ◌-◌, ◌*◌, ◌/◌, ◌%◌, ◌<◌, ◌≤◌, ℤ, pos, negsuc, ◌+ℤ◌, ◌-ℤ◌, ◌≤ℤ◌, neg_ℤ, Bool, true, false, List, [], ◌∷◌, length, get_or, replicate, Some, refl, arith, inl, inr, ◌∙◌, ap, subst}
+use Rattle.std.proofs.Common.{◌≡◌, ℕ, suc, zero, ◌+◌, ◌-◌, ◌*◌, ◌/◌, ◌%◌, ◌<◌, ◌≤◌, ℤ, pos, negsuc, ◌+ℤ◌, ◌-ℤ◌, ◌≤ℤ◌, neg_ℤ, Bool, true, false, List, length, get_or, replicate, Some, refl, arith, inl, inr, ◌∙◌, ap, subst}
 use Rattle.std.specs.Prelude.{unsigned_abs}
 use Rattle.std.proofs.lemmas.Bool.{both_ways, cases_lt}
 use Rattle.std.proofs.lemmas.Int.{ints}
 use Rattle.std.proofs.lemmas.Nat.{mod-mul-add, div-add-mod', mod_below}
 use Rattle.std.proofs.lemmas.List.Folds.{list_any_at}
 use Rattle.sql_values.specs.declared.places.Interval.{Interval}
-use Rattle.part_rules.specs.KeySets.{is_within, IsNormal, RisesFrom}
+use Rattle.part_rules.specs.KeySets.{is_within}
 use Rattle.part_rules.specs.Rules.{hash_part}
 use Rattle.part_rules.specs.Marking.{IsMarked, AreMarks}
 use Rattle.part_rules.proofs.Marks.{within_from, all_marked}
@@ -56,16 +56,6 @@ every_part n p (negsuc a) (pos b) within long =
     below_zero : (p : ℕ) → b < n - 1 → p < n → (key : ℤ) × (negsuc a ≤ℤ key) × (key ≤ℤ pos b) × (hash_part n key ≡ p)
     below_zero zero short l = (pos 0, omega (arith, ints), omega (arith, ints), mod_of_small n 0 l)
     below_zero (suc p) short l = (negsuc p, omega (arith, ints), omega (arith, ints), hash_of_negative n p ∙ mod_of_small n (suc p) l)
-
--- an interval of a normal list has a key
-pub filled_at : (is : List Interval) (i : ℕ) (d : Interval) → IsNormal is → i < length is → (get_or is i d).low ≤ℤ (get_or is i d).high
-filled_at [] i d normal within = absurd (omega arith)
-filled_at (x ∷ is) i d normal within = from x.low (x ∷ is) i normal within
-  where
-    from : (low : ℤ) (is : List Interval) (i : ℕ) → RisesFrom low is → i < length is → (get_or is i d).low ≤ℤ (get_or is i d).high
-    from low [] i rises l = absurd (omega arith)
-    from low (x ∷ is) zero rises l = rises.1
-    from low (x ∷ is) (suc i) rises l = from (x.high +ℤ pos 2) is i rises.2 (omega arith)
 
 marked_below : (n p : ℕ) → IsMarked (replicate n true) p → p < n
 marked_below zero p mark = absurd (both_ways false refl mark)

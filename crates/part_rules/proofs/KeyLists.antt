@@ -1,6 +1,6 @@
-use Rattle.std.proofs.Common.{ℕ, ◌+◌, ◌<◌, ◌&&◌, length, drop, get_or, append_assoc, ◌≡◌, ℤ, pos, ◌+ℤ◌, ◌≤ℤ◌, ◌<ℤ◌, true, false, ◌||◌, List, [], ◌∷◌, ◌++◌, refl, arith, ◌⊎◌, inl, inr, ap}
+use Rattle.std.proofs.Common.{ℕ, suc, zero, ◌+◌, ◌<◌, ◌&&◌, length, drop, get_or, append_assoc, ◌≡◌, ℤ, pos, ◌+ℤ◌, ◌≤ℤ◌, ◌<ℤ◌, false, ◌||◌, List, [], ◌∷◌, ◌++◌, refl, arith, ap}
 use Rattle.std.specs.Prelude.{int_le}
-use Rattle.std.proofs.lemmas.Int.{ints, by_lt_z}
+use Rattle.std.proofs.lemmas.Int.{ints}
 use Rattle.std.proofs.lemmas.List.{drop_more}
 use Rattle.sql_values.specs.declared.places.Interval.{Interval}
 use Rattle.part_rules.specs.KeySets.{has_key, is_within, RisesFrom, IsNormal}
@@ -27,7 +27,8 @@ RisesFrom-of : (low : ℤ) (is : List Interval) (top : ℤ) → RisesTo low is t
 RisesFrom-of low [] top rises = tt
 RisesFrom-of low (x ∷ is) top rises = (rises.0, rises.1, RisesFrom-of (x.high +ℤ pos 2) is top rises.2)
 
-IsNormal-from : (low : ℤ) (is : List Interval) → RisesFrom low is → IsNormal is
+-- what rises is in normal form
+pub IsNormal-from : (low : ℤ) (is : List Interval) → RisesFrom low is → IsNormal is
 IsNormal-from low [] rises = tt
 IsNormal-from low (x ∷ is) rises = (omega (arith, ints), rises.1, rises.2)
 
@@ -37,10 +38,6 @@ IsNormal-of low is top rises = IsNormal-from low is (RisesFrom-of low is top ris
 pub Ascends-earlier : (low earlier : ℤ) (is : List Interval) → Ascends low is → earlier ≤ℤ low → Ascends earlier is
 Ascends-earlier low earlier [] ascends below = tt
 Ascends-earlier low earlier (x ∷ is) ascends below = (omega (arith, ints), ascends.1, ascends.2)
-
--- what a test of order tells
-int_le_tells : (a b : ℤ) → ((int_le a b ≡ true) × (a ≤ℤ b)) ⊎ ((int_le a b ≡ false) × (b <ℤ a))
-int_le_tells a b = by_lt_z b a (λ l. inr (grind (arith, ints), l)) (λ l. inl (grind (arith, ints), l))
 
 -- two intervals that no key parts hold the keys of one: the second ends later
 pub within_later : (a b c d key : ℤ) → a ≤ℤ c → c ≤ℤ (b +ℤ pos 1) → b ≤ℤ d → (int_le a key && int_le key d) ≡ ((int_le a key && int_le key b) || (int_le c key && int_le key d))
@@ -82,3 +79,13 @@ has_key-before low (x ∷ is) key rises before =
     let later : has_key is key ≡ false = has_key-before (x.high +ℤ pos 2) is key rises.2 (omega (arith, ints)) in
     let outside : int_le x.low key ≡ false = grind (arith, ints) in
     grind (arith, later, outside)
+
+-- an interval of a normal list has a key
+pub filled_at : (is : List Interval) (i : ℕ) (d : Interval) → IsNormal is → i < length is → (get_or is i d).low ≤ℤ (get_or is i d).high
+filled_at [] i d normal within = absurd (omega arith)
+filled_at (x ∷ is) i d normal within = from x.low (x ∷ is) i normal within
+  where
+    from : (low : ℤ) (is : List Interval) (i : ℕ) → RisesFrom low is → i < length is → (get_or is i d).low ≤ℤ (get_or is i d).high
+    from low [] i rises l = absurd (omega arith)
+    from low (x ∷ is) zero rises l = rises.1
+    from low (x ∷ is) (suc i) rises l = from (x.high +ℤ pos 2) is i rises.2 (omega arith)

@@ -11,7 +11,7 @@ use Rattle.part_rules.specs.declared.bounds.Bound.TheVariants.{Below, MaxValue}
 use Rattle.part_rules.specs.KeySets.{has_key, is_within, RisesFrom, IsNormal}
 use Rattle.part_rules.specs.Rules.{is_below, is_lower, rises_above, rises, range_part}
 use Rattle.part_rules.specs.Marking.{IsMarked, AreMarks, begins_below, behind, range_marks}
-use Rattle.part_rules.proofs.KeyLists.{has_key-before, RisesFrom-earlier}
+use Rattle.part_rules.proofs.KeyLists.{IsNormal-from, has_key-before, RisesFrom-earlier}
 use Rattle.part_rules.proofs.OneList.{at_first}
 use Rattle.part_rules.proofs.Positions.{position-first, position-behind, position-behind_of}
 use Rattle.part_rules.proofs.RangeParts.{below_higher, rises_behind}
@@ -58,13 +58,9 @@ RisesFrom-behind bound low (x ∷ is) rises =
       | inr reaches ↦ rw reaches rises
     ]
 
-RisesFrom-normal : (low : ℤ) (is : List Interval) → RisesFrom low is → IsNormal is
-RisesFrom-normal low [] rises = tt
-RisesFrom-normal low (x ∷ is) rises = (omega (arith, ints), rises.1, rises.2)
-
 pub IsNormal-behind : (bound : Bound) (is : List Interval) → IsNormal is → IsNormal (behind bound is)
 IsNormal-behind bound [] normal = tt
-IsNormal-behind bound (x ∷ is) normal = RisesFrom-normal x.low (behind bound (x ∷ is)) (RisesFrom-behind bound x.low (x ∷ is) normal)
+IsNormal-behind bound (x ∷ is) normal = IsNormal-from x.low (behind bound (x ∷ is)) (RisesFrom-behind bound x.low (x ∷ is) normal)
 
 in_tail : (x : Interval) (is : List Interval) (key : ℤ) → has_key is key ≡ true → has_key (x ∷ is) key ≡ true
 in_tail x is key there = grind (arith, there)

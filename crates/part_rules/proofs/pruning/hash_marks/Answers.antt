@@ -1,9 +1,9 @@
 use Rattle.std.proofs.Common.{◌≡◌, ◌*◌, ◌-◌, ◌-ℤ◌, ◌≤ℤ◌, get_or, w64, SFits, length, rules, arith}
 use Rattle.std.specs.Prelude.{unsigned_abs}
 use Rattle.std.proofs.lemmas.Int.{to_z-of_z}
-use Rattle.part_rules.proofs.KeyLists.{no_interval}
+use Rattle.part_rules.proofs.KeyLists.{filled_at, no_interval}
 use Rattle.part_rules.proofs.Marks.{Stepped-more, Stepped-count, AreMarks-whole}
-use Rattle.part_rules.proofs.HashMarks.{filled_at, AreMarks-full, is_long}
+use Rattle.part_rules.proofs.HashMarks.{AreMarks-full, is_long}
 use Rattle.part_rules.proofs.pruning.hash_marks.Goals as goal
 
 pub returns-then-abs_diff-from-clause-marks : goal.returns-then-abs_diff-from-clause-marks

@@ -1,7 +1,6 @@
 use Rattle.std.proofs.Common.{◌≡◌, length, rules}
-use Rattle.part_rules.proofs.KeyLists.{no_interval}
+use Rattle.part_rules.proofs.KeyLists.{filled_at, no_interval}
 use Rattle.part_rules.proofs.Marks.{Stepped-more, Stepped-count}
-use Rattle.part_rules.proofs.HashMarks.{filled_at}
 use Rattle.part_rules.proofs.pruning.list_marks.Goals as goal
 
 pub mark-requires-clause-filled : goal.mark-requires-clause-filled
