@@ -1,0 +1,13 @@
+use Rattle.std.proofs.Common.{◌≡◌, ℤ, ◌≤ℤ◌, ◌∷◌, ◌++◌, drop}
+use Rattle.part_rules.specs.KeySets.{has_key}
+use Rattle.part_rules.specs.Merging.{Ascends}
+use Rattle.part_rules.proofs.KeyLists.{RisesTo}
+use Rattle.part_rules.proofs.merging.joined_from.Given as goal
+
+abbrev pub invariant-loop-next : goal.invariant-loop-next
+invariant-loop-next l = record {
+  rises : RisesTo l.first.low l.list.items l.current.low;
+  filled : l.current.low ≤ℤ l.current.high;
+  ascends : Ascends l.current.low (drop l.next-index l.others);
+  keys : (key : ℤ) → has_key (l.list.items ++ l.current ∷ drop l.next-index l.others) key ≡ has_key (l.first ∷ l.others) key;
+}
