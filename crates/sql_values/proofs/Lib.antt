@@ -1,3 +1,4 @@
 mod Lookups
 mod Seeks
 mod Values
+mod Kept

@@ -1,6 +1,6 @@
 -- Columns are looked up table by table.
-use Rattle.std.proofs.Common.{◌≡◌, ℕ, ◌+◌, Bool, true, false, cond, ◌&&◌, List, [], ◌∷◌, ◌++◌, map, length, drop, find, filter, count_by, nat_eq, refl, sym, ap, ◌∙◌, arith, rules, Option, Some, None}
-use Rattle.std.specs.List.{flat_map, zip}
+use Rattle.std.proofs.Common.{◌≡◌, ℕ, ◌+◌, Bool, true, false, cond, List, [], ◌∷◌, ◌++◌, map, length, drop, find, filter, count_by, nat_eq, refl, sym, ap, ◌∙◌, arith, Option, Some, None}
+use Rattle.std.specs.List.{zip}
 use Rattle.std.specs.Option.{option_map, option_or}
 use Rattle.std.specs.Cmp.Lexicographic.{pointwise}
 use Rattle.std.proofs.lemmas.Grind.{common_steps}
@@ -13,7 +13,7 @@ use Rattle.sql_values.specs.declared.table.ColumnDef.{ColumnDef}
 use Rattle.sql_values.specs.declared.table.TableDef.{TableDef}
 use Rattle.sql_values.specs.declared.tree.ColumnName.{ColumnName}
 use Rattle.sql_values.specs.declared.value.Value.{Value}
-use Rattle.sql_values.specs.Columns.{columns_of, may_qualify, may_mean, columns_meant, column_kind, column_value}
+use Rattle.sql_values.specs.Columns.{may_qualify, may_mean, columns_meant, column_kind, column_value}
 
 -- the column has the name, whatever its table
 abbrev pub named : List ℕ → ColumnDef → Bool

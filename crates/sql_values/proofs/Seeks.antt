@@ -1,6 +1,6 @@
 -- The first name of a column that passes a test, part by part.
-use Rattle.std.proofs.Common.{◌≡◌, Bool, List, [], ◌∷◌, ◌++◌, refl, find, sym, ap, ◌∙◌, Option, Some, None}
-use Rattle.std.specs.Option.{option_map, option_or}
+use Rattle.std.proofs.Common.{◌≡◌, Bool, List, [], ◌++◌, refl, find, sym, ap, ◌∙◌, None}
+use Rattle.std.specs.Option.{option_or}
 use Rattle.std.proofs.lemmas.Grind.{common_steps}
 use Rattle.std.proofs.lemmas.List.Folds.{find-append}
 use Rattle.sql_values.specs.declared.tree.ColumnName.{ColumnName}

@@ -1,5 +1,5 @@
 -- What a check of a condition or an expression against its tables answers.
-use Rattle.std.specs.Prelude.{ℕ, Bool, true, false, ◌&&◌, ◌==◌, ◌++◌, if◌then◌else◌, nat_lt, List, [], ◌∷◌, Option, Some, None, Result, Ok, Err, length, map}
+use Rattle.std.specs.Prelude.{ℕ, Bool, true, false, ◌&&◌, ◌==◌, ◌++◌, if◌then◌else◌, nat_lt, List, [], ◌∷◌, Option, Some, None, Result, Ok, Err, length}
 use Rattle.std.specs.List.{list_all, flat_map, find}
 use Rattle.std.specs.Option.{option_map, option_or}
 use Rattle.sql_values.specs.declared.checks.CheckFault.{CheckFault}

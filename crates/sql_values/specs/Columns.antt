@@ -1,5 +1,5 @@
 -- The columns of tables, and what a statement's name of a column means among them.
-use Rattle.std.specs.Prelude.{ℕ, Bool, true, false, ◌&&◌, List, Option, Some, None, map, nat_eq, length}
+use Rattle.std.specs.Prelude.{ℕ, Bool, true, ◌&&◌, List, Option, Some, None, map, nat_eq}
 use Rattle.std.specs.List.{flat_map, filter, find, zip}
 use Rattle.std.specs.Option.{option_map}
 use Rattle.std.specs.Cmp.Lexicographic.{pointwise}

@@ -1,6 +1,5 @@
 -- What may be compared with what, and stored where.
-use Rattle.std.specs.Prelude.{ℕ, ◌^◌, ◌-◌, Bool, true, false, ◌&&◌, List, Option, Some, None, length, min}
-use Rattle.std.specs.Option.{option_map}
+use Rattle.std.specs.Prelude.{◌^◌, ◌-◌, Bool, true, false, Option, Some, None, length, min}
 use Rattle.std.specs.Str.{chars}
 use Rattle.sql_values.specs.declared.literal.Literal.{Literal}
 use Rattle.sql_values.specs.declared.literal.Literal.TheVariants as literal

@@ -3,6 +3,7 @@ pub mod Columns
 pub mod Conditions
 pub mod Expressions
 pub mod Kinds
+pub mod Laws
 pub mod Names
 pub mod Scalars
 pub mod Seeking

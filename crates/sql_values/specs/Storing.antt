@@ -1,5 +1,5 @@
 -- What becomes of a literal that is stored, and how much room a row takes.
-use Rattle.std.specs.Prelude.{ℕ, ◌+◌, ◌^◌, ◌-◌, Bool, true, false, ◌&&◌, if◌then◌else◌, nat_le, List, Result, Ok, Err, length, min, sum_by}
+use Rattle.std.specs.Prelude.{ℕ, ◌+◌, Bool, ◌&&◌, if◌then◌else◌, nat_le, List, Result, Ok, Err, length, sum_by}
 use Rattle.std.specs.Str.{chars}
 use Rattle.sql_values.specs.declared.literal.Literal.{Literal}
 use Rattle.sql_values.specs.declared.literal.Literal.TheVariants as literal

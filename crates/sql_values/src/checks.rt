@@ -13,17 +13,22 @@ use crate::kinds::are_comparable;
 use crate::{Addend, ColumnName, Cond, Expr, Kind, Literal, Name, Operand, TableDef, TableDefs};
 use std::alloc::{AllocError, Global};
 use std::slice;
+use thiserror::Error;
 
 /// Why a condition or an expression doesn't fit its tables.
-#[derive(Debug, Drop)]
+#[derive(Debug, Drop, Error)]
 pub enum CheckFault {
     /// No table has a column of this name.
+    #[error("no column {0}")]
     NoColumn(Name),
     /// More than one column may be meant by this name.
+    #[error("column {0} is ambiguous")]
     Ambiguous(Name),
     /// Values of different types meet, or NULL stands where it can't.
+    #[error("types that do not go together")]
     TypeMismatch,
     /// There wasn't enough memory.
+    #[error("out of memory")]
     NoMemory,
 }
 

@@ -9,13 +9,16 @@ use crate::columns::column_value;
 use crate::{Addend, ColumnName, Expr, Literal, Row, TableDef, Text, Value};
 use std::alloc::{AllocError, Global};
 use std::slice;
+use thiserror::Error;
 
 /// Why an expression has no value.
-#[derive(Debug, Drop)]
+#[derive(Debug, Drop, Error)]
 pub enum ValueFault {
     /// A literal or a partial result is outside the range of a BIGINT.
+    #[error("out of the range of a BIGINT")]
     OutOfRange,
     /// There wasn't enough memory.
+    #[error("out of memory")]
     NoMemory,
 }
 

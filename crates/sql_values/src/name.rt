@@ -5,6 +5,7 @@ ghost use Rattle.sql_values.specs.Names.{IsName, is_name, begins_name as may_beg
 use list_types::Text;
 use std::alloc::{AllocError, Global};
 use std::cmp::Ordering;
+use std::fmt;
 use std::hash::{Hash, Hasher};
 use std::marker::Model;
 
@@ -174,5 +175,15 @@ impl Hash for Name {
 
     fn hash<H: Hasher>(&self, state: &mut H) {
         self.text.hash(state)
+    }
+}
+
+impl fmt::Display for Name {
+    ghost use Rattle.std.specs.Prelude.{Some};
+
+    ghost output = { λ n. Some n };
+
+    fn fmt<W: fmt::Write>(&self, f: &mut fmt::Formatter<W>) -> fmt::Result {
+        write!(f, "{}", self.as_str())
     }
 }

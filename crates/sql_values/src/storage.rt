@@ -7,22 +7,28 @@ use crate::expressions::to_big_int;
 use crate::kinds::character_count;
 use crate::{Kind, Literal, Row, Text, Value};
 use std::alloc::{AllocError, Global};
+use thiserror::Error;
 
 /// The most bytes of a text in a column.
 const LONGEST_TEXT: usize = 1024;
 
 /// Why a literal can't be stored in a column.
-#[derive(Debug, Drop)]
+#[derive(Debug, Drop, Error)]
 pub enum StoreFault {
     /// No column holds NULL.
+    #[error("NULL")]
     IsNull,
     /// A number meets a VARCHAR, or a text a BIGINT.
+    #[error("a value of another type")]
     TypeMismatch,
     /// The number is outside the range of a BIGINT.
+    #[error("out of the range of a BIGINT")]
     OutOfRange,
     /// The text has more characters than the column allows, or more than 1,024 bytes.
+    #[error("a text that is too long")]
     TooLong,
     /// There wasn't enough memory.
+    #[error("out of memory")]
     NoMemory,
 }
 

@@ -154,87 +154,148 @@ fn checked(rt: &HostRuntime, cond: Cond) -> Result<&'static str, Fail> {
     })
 }
 
+// Whether two columns compare so.
+fn columns_compare(
+    rt: &HostRuntime,
+    left: (&str, &str),
+    comparison: Comparison,
+    right: (&str, &str),
+) -> Result<bool, Fail> {
+    holds_here(rt, with_column(rt, left, comparison, right)?)
+}
+
+fn number_compares(rt: &HostRuntime, comparison: Comparison, number: i128) -> Result<bool, Fail> {
+    holds_here(
+        rt,
+        with_literal(rt, "t", "k", comparison, Literal::Number(number))?,
+    )
+}
+
+fn text_compares(rt: &HostRuntime, comparison: Comparison, other: &str) -> Result<bool, Fail> {
+    holds_here(rt, with_literal(rt, "", "v", comparison, text(rt, other)?)?)
+}
+
 #[test]
-fn conditions_hold(rt: HostRuntime) -> Result<(), Fail> {
-    use crate::tree::Comparison::{AtLeast, AtMost, Equal, Greater, Less, NotEqual};
-    let rt = &rt;
-    // The sides in their order, each from its own table.
-    assert!(*rt; holds_here(rt, with_column(rt, ("t", "k"), Less, ("u", "k"))?)?);
-    assert!(*rt; !holds_here(rt, with_column(rt, ("u", "k"), Less, ("t", "k"))?)?);
-    // Texts by bytes: small letters come after capitals, and a front of a text before it.
-    assert!(*rt; holds_here(rt, with_column(rt, ("", "v"), Greater, ("", "w"))?)?);
-    assert!(*rt; holds_here(rt, with_literal(rt, "", "v", Greater, text(rt, "a")?)?)?);
-    assert!(*rt; !holds_here(rt, with_literal(rt, "", "v", Equal, text(rt, "AB")?)?)?);
-    assert!(*rt; !holds_here(rt, with_literal(rt, "", "v", Equal, text(rt, "ab ")?)?)?);
-    // Numbers beyond 64 bits are compared exactly.
-    assert!(*rt;
-        holds_here(
-            rt,
-            with_literal(rt, "t", "k", Less, Literal::Number(1 << 64))?
-        )?
-    );
-    assert!(*rt;
-        holds_here(
-            rt,
-            with_literal(rt, "t", "k", NotEqual, Literal::Number((1 << 64) + 1))?
-        )?
-    );
-    assert!(*rt; holds_here(rt, with_literal(rt, "t", "k", AtMost, Literal::Number(1))?)?);
-    assert!(*rt; holds_here(rt, with_literal(rt, "t", "k", AtLeast, Literal::Number(1))?)?);
+fn columns_are_compared(rt: HostRuntime) -> Result<(), Fail> {
+    // The sides in their order, each from its own table; small letters come after capitals.
+    for (left, comparison, right, want) in [
+        (("t", "k"), Comparison::Less, ("u", "k"), true),
+        (("u", "k"), Comparison::Less, ("t", "k"), false),
+        (("", "v"), Comparison::Greater, ("", "w"), true),
+    ] {
+        assert_eq!(rt; columns_compare(&rt, left, comparison, right)?, want);
+    }
     Ok(())
 }
 
 #[test]
-fn tests_and_their_parts_hold(rt: HostRuntime) -> Result<(), Fail> {
-    let rt = &rt;
-    assert!(*rt; holds_here(rt, one_of(rt, "k", false, &[7, 2])?)?);
-    assert!(*rt; !holds_here(rt, one_of(rt, "k", true, &[7, 2])?)?);
-    // Both ends of BETWEEN are within.
-    assert!(*rt; holds_here(rt, between(rt, false, 2, 2)?)?);
-    assert!(*rt; !holds_here(rt, between(rt, false, 3, 1)?)?);
-    assert!(*rt; holds_here(rt, between(rt, true, 3, 4)?)?);
-    let parts = both(rt, between(rt, false, 2, 2)?, between(rt, true, 2, 2)?)?;
-    assert!(*rt; !holds_here(rt, Cond::All(parts))?);
-    let parts = both(rt, between(rt, true, 2, 2)?, between(rt, false, 2, 2)?)?;
-    assert!(*rt; holds_here(rt, Cond::Any(parts))?);
-    assert!(*rt;
-        holds_here(
-            rt,
-            Cond::Not(Boxed::new(rt.alloc(), between(rt, true, 2, 2)?)?)
-        )?
-    );
+fn numbers_are_compared(rt: HostRuntime) -> Result<(), Fail> {
+    // The column has 1; numbers beyond 64 bits are compared exactly.
+    for (comparison, number, want) in [
+        (Comparison::Less, 1 << 64, true),
+        (Comparison::NotEqual, (1 << 64) + 1, true),
+        (Comparison::AtMost, 1, true),
+        (Comparison::AtLeast, 1, true),
+        (Comparison::Greater, 1, false),
+    ] {
+        assert_eq!(rt; number_compares(&rt, comparison, number)?, want);
+    }
     Ok(())
+}
+
+#[test]
+fn texts_are_compared(rt: HostRuntime) -> Result<(), Fail> {
+    // The column has 'ab': no case is folded and no blank passed over.
+    for (comparison, other, want) in [
+        (Comparison::Greater, "a", true),
+        (Comparison::Equal, "AB", false),
+        (Comparison::Equal, "ab ", false),
+    ] {
+        assert_eq!(rt; text_compares(&rt, comparison, other)?, want);
+    }
+    Ok(())
+}
+
+fn is_one_of(rt: &HostRuntime, negated: bool) -> Result<bool, Fail> {
+    holds_here(rt, one_of(rt, "k", negated, &[7, 2])?)
+}
+
+fn lies_between(rt: &HostRuntime, negated: bool, low: i128, high: i128) -> Result<bool, Fail> {
+    holds_here(rt, between(rt, negated, low, high)?)
+}
+
+fn all(rt: &HostRuntime, first: bool, second: bool) -> Result<bool, Fail> {
+    let parts = both(rt, between(rt, first, 2, 2)?, between(rt, second, 2, 2)?)?;
+    holds_here(rt, Cond::All(parts))
+}
+
+fn any(rt: &HostRuntime, first: bool, second: bool) -> Result<bool, Fail> {
+    let parts = both(rt, between(rt, first, 2, 2)?, between(rt, second, 2, 2)?)?;
+    holds_here(rt, Cond::Any(parts))
+}
+
+fn none(rt: &HostRuntime) -> Result<bool, Fail> {
+    holds_here(
+        rt,
+        Cond::Not(Boxed::new(rt.alloc(), between(rt, true, 2, 2)?)?),
+    )
+}
+
+#[test]
+fn lists_and_intervals_hold(rt: HostRuntime) -> Result<(), Fail> {
+    // The column has 2, and both ends of BETWEEN are within.
+    assert!(rt; is_one_of(&rt, false)?);
+    assert!(rt; !is_one_of(&rt, true)?);
+    for (negated, low, high, want) in [
+        (false, 2, 2, true),
+        (false, 3, 1, false),
+        (true, 3, 4, true),
+    ] {
+        assert_eq!(rt; lies_between(&rt, negated, low, high)?, want);
+    }
+    Ok(())
+}
+
+#[test]
+fn parts_are_joined(rt: HostRuntime) -> Result<(), Fail> {
+    assert!(rt; !all(&rt, false, true)?);
+    assert!(rt; any(&rt, true, false)?);
+    assert!(rt; none(&rt)?);
+    Ok(())
+}
+
+fn columns_check(
+    rt: &HostRuntime,
+    left: (&str, &str),
+    right: (&str, &str),
+) -> Result<&'static str, Fail> {
+    checked(rt, with_column(rt, left, Comparison::Equal, right)?)
+}
+
+fn null_checks(rt: &HostRuntime) -> Result<&'static str, Fail> {
+    checked(
+        rt,
+        with_literal(rt, "t", "k", Comparison::Equal, Literal::Null)?,
+    )
+}
+
+fn list_checks(rt: &HostRuntime) -> Result<&'static str, Fail> {
+    checked(rt, one_of(rt, "w", false, &[1])?)
 }
 
 #[test]
 fn conditions_are_checked(rt: HostRuntime) -> Result<(), Fail> {
-    use crate::tree::Comparison::Equal;
-    let rt = &rt;
-    assert_eq!(*rt;
-        checked(rt, with_column(rt, ("t", "v"), Equal, ("u", "w"))?)?,
-        "fits"
-    );
-    assert_eq!(*rt;
-        checked(rt, with_column(rt, ("", "k"), Equal, ("", "x"))?)?,
-        "no x"
-    );
-    assert_eq!(*rt;
-        checked(rt, with_column(rt, ("u", "x"), Equal, ("", "y"))?)?,
-        "no x"
-    );
-    assert_eq!(*rt;
-        checked(rt, with_column(rt, ("", "k"), Equal, ("", "v"))?)?,
-        "k ambiguous"
-    );
-    assert_eq!(*rt;
-        checked(rt, with_column(rt, ("t", "k"), Equal, ("", "v"))?)?,
-        "types"
-    );
-    assert_eq!(*rt;
-        checked(rt, with_literal(rt, "t", "k", Equal, Literal::Null)?)?,
-        "types"
-    );
-    assert_eq!(*rt; checked(rt, one_of(rt, "w", false, &[1])?)?, "types");
+    for (left, right, want) in [
+        (("t", "v"), ("u", "w"), "fits"),
+        (("", "k"), ("", "x"), "no x"),
+        (("u", "x"), ("", "y"), "no x"),
+        (("", "k"), ("", "v"), "k ambiguous"),
+        (("t", "k"), ("", "v"), "types"),
+    ] {
+        assert_eq!(rt; columns_check(&rt, left, right)?, want);
+    }
+    assert_eq!(rt; null_checks(&rt)?, "types");
+    assert_eq!(rt; list_checks(&rt)?, "types");
     Ok(())
 }
 
@@ -256,16 +317,68 @@ fn product(rt: &HostRuntime, first: Expr, second: Expr) -> Result<Expr, Fail> {
     Ok(Expr::Product(factors))
 }
 
-fn value(rt: &HostRuntime, expr: Expr) -> Result<Option<Value>, Fail> {
+// The number of an expression of numbers, none where one is out of range, and -1 where it is a text.
+fn value(rt: &HostRuntime, expr: Expr) -> Result<Option<i64>, Fail> {
     let copy = expr.copy(rt.alloc())?;
     if !copy.is_same(&expr) {
         return Err(Fail::from("a copy is another expression"));
     }
     match eval(rt.alloc(), &copy, &table(rt, "t", "v", 4)?, &row(rt)?) {
-        Ok(value) => Ok(Some(value)),
+        Ok(Value::Number(number)) => Ok(Some(number)),
+        Ok(Value::Text(text)) => Ok(if text.as_str() == "ab" {
+            Some(-1)
+        } else {
+            None
+        }),
         Err(ValueFault::OutOfRange) => Ok(None),
         Err(ValueFault::NoMemory) => Err(Fail::from("memory")),
     }
+}
+
+fn sum_value(rt: &HostRuntime, parts: &[(bool, i128)]) -> Result<Option<i64>, Fail> {
+    value(rt, sum(rt, parts)?)
+}
+
+fn negated(rt: &HostRuntime, number: i128) -> Result<Expr, Fail> {
+    Ok(Expr::Negated(Boxed::new(rt.alloc(), Expr::Literal(Literal::Number(number)))?))
+}
+
+fn negated_value(rt: &HostRuntime, number: i128) -> Result<Option<i64>, Fail> {
+    value(rt, negated(rt, number)?)
+}
+
+fn product_value(rt: &HostRuntime) -> Result<Option<i64>, Fail> {
+    let own = Expr::Column(column(rt, "t", "k")?);
+    value(rt, product(rt, own, negated(rt, 5)?)?)
+}
+
+fn column_value(rt: &HostRuntime) -> Result<Option<i64>, Fail> {
+    value(rt, Expr::Column(column(rt, "", "v")?))
+}
+
+#[test]
+fn sums_have_values(rt: HostRuntime) -> Result<(), Fail> {
+    let most = i128::from(i64::MAX);
+    assert_eq!(rt;
+        sum_value(&rt, &[(false, 7), (true, 2), (false, 1)])?,
+        Some(6)
+    );
+    // A partial result is out of range, though the whole wouldn't be.
+    assert_eq!(rt;
+        sum_value(&rt, &[(false, most), (false, 1), (true, 1)])?,
+        None
+    );
+    Ok(())
+}
+
+#[test]
+fn expressions_have_values(rt: HostRuntime) -> Result<(), Fail> {
+    assert_eq!(rt; product_value(&rt)?, Some(-5));
+    assert_eq!(rt; column_value(&rt)?, Some(-1));
+    for (number, want) in [(5, Some(-5)), (1 << 63, None), (-(1 << 63), None)] {
+        assert_eq!(rt; negated_value(&rt, number)?, want);
+    }
+    Ok(())
 }
 
 fn kind(rt: &HostRuntime, expr: Expr) -> Result<&'static str, Fail> {
@@ -279,55 +392,27 @@ fn kind(rt: &HostRuntime, expr: Expr) -> Result<&'static str, Fail> {
     )
 }
 
-#[test]
-fn expressions_have_values(rt: HostRuntime) -> Result<(), Fail> {
-    let rt = &rt;
-    let most = i128::from(i64::MAX);
-    assert_eq!(*rt;
-        value(rt, sum(rt, &[(false, 7), (true, 2), (false, 1)])?)?,
-        Some(Value::Number(6))
-    );
-    // A partial result is out of range, though the whole wouldn't be.
-    assert_eq!(*rt;
-        value(rt, sum(rt, &[(false, most), (false, 1), (true, 1)])?)?,
-        None
-    );
-    assert_eq!(*rt; value(rt, Expr::Literal(Literal::Number(most + 1)))?, None);
-    let own = Expr::Column(column(rt, "t", "k")?);
-    let minus = Expr::Negated(Boxed::new(rt.alloc(), Expr::Literal(Literal::Number(5)))?);
-    assert_eq!(*rt;
-        value(rt, product(rt, own, minus)?)?,
-        Some(Value::Number(-5))
-    );
-    let least = Expr::Literal(Literal::Number(-most - 1));
-    assert_eq!(*rt;
-        value(rt, Expr::Negated(Boxed::new(rt.alloc(), least)?))?,
-        None
-    );
-    let own = Expr::Column(column(rt, "", "v")?);
-    assert_eq!(*rt;
-        value(rt, own)?,
-        Some(Value::Text(Text::from_str(rt.alloc(), "ab")?))
-    );
-    Ok(())
+fn column_kind(rt: &HostRuntime) -> Result<&'static str, Fail> {
+    kind(rt, Expr::Column(column(rt, "", "v")?))
+}
+
+fn sum_kind(rt: &HostRuntime) -> Result<&'static str, Fail> {
+    kind(rt, sum(rt, &[(false, 1), (true, 2)])?)
+}
+
+fn product_kind(rt: &HostRuntime, second: (&str, &str)) -> Result<&'static str, Fail> {
+    let first = Expr::Column(column(rt, "", "v")?);
+    let second = Expr::Column(column(rt, second.0, second.1)?);
+    kind(rt, product(rt, first, second)?)
 }
 
 #[test]
 fn expressions_are_checked(rt: HostRuntime) -> Result<(), Fail> {
-    let rt = &rt;
-    assert_eq!(*rt; kind(rt, Expr::Column(column(rt, "", "v")?))?, "text of 4");
-    assert_eq!(*rt; kind(rt, sum(rt, &[(false, 1), (true, 2)])?)?, "number");
-    let (first, second) = (
-        Expr::Column(column(rt, "", "v")?),
-        Expr::Column(column(rt, "u", "x")?),
-    );
-    assert_eq!(*rt; kind(rt, product(rt, first, second)?)?, "no x");
-    let (first, second) = (
-        Expr::Column(column(rt, "", "v")?),
-        Expr::Column(column(rt, "", "k")?),
-    );
-    assert_eq!(*rt; kind(rt, product(rt, first, second)?)?, "types");
-    assert_eq!(*rt; kind(rt, Expr::Literal(Literal::Null))?, "types");
+    assert_eq!(rt; column_kind(&rt)?, "text of 4");
+    assert_eq!(rt; sum_kind(&rt)?, "number");
+    assert_eq!(rt; product_kind(&rt, ("u", "x"))?, "no x");
+    assert_eq!(rt; product_kind(&rt, ("", "k"))?, "types");
+    assert_eq!(rt; kind(&rt, Expr::Literal(Literal::Null))?, "types");
     Ok(())
 }
 
@@ -352,26 +437,44 @@ fn long(rt: &HostRuntime, bytes: usize) -> Result<Literal, Fail> {
     Ok(Literal::Text(Text::from_string(long)))
 }
 
+fn number_stored(rt: &HostRuntime, number: i128, kind: Kind) -> Result<&'static str, Fail> {
+    stored(rt, Literal::Number(number), kind)
+}
+
+fn text_stored(rt: &HostRuntime, own: &str, kind: Kind) -> Result<&'static str, Fail> {
+    stored(rt, text(rt, own)?, kind)
+}
+
+fn long_stored(rt: &HostRuntime, bytes: usize) -> Result<&'static str, Fail> {
+    stored(rt, long(rt, bytes)?, Kind::VarChar(4000))
+}
+
 #[test]
-fn literals_are_stored(rt: HostRuntime) -> Result<(), Fail> {
-    let rt = &rt;
-    let least = -(1i128 << 63);
-    assert_eq!(*rt; stored(rt, Literal::Null, Kind::BigInt)?, "null");
-    assert_eq!(*rt; stored(rt, Literal::Number(least), Kind::BigInt)?, "least");
-    assert_eq!(*rt;
-        stored(rt, Literal::Number(least - 1), Kind::BigInt)?,
-        "range"
-    );
-    assert_eq!(*rt;
-        stored(rt, Literal::Number(least - 1), Kind::VarChar(2))?,
-        "types"
-    );
-    assert_eq!(*rt; stored(rt, text(rt, "1")?, Kind::BigInt)?, "types");
+fn numbers_are_stored(rt: HostRuntime) -> Result<(), Fail> {
+    for (number, kind, want) in [
+        (-(1i128 << 63), Kind::BigInt, "least"),
+        (-(1i128 << 63) - 1, Kind::BigInt, "range"),
+        (1i128 << 63, Kind::BigInt, "range"),
+        (-(1i128 << 63) - 1, Kind::VarChar(2), "types"),
+    ] {
+        assert_eq!(rt; number_stored(&rt, number, kind)?, want);
+    }
+    assert_eq!(rt; stored(&rt, Literal::Null, Kind::BigInt)?, "null");
+    Ok(())
+}
+
+#[test]
+fn texts_are_stored(rt: HostRuntime) -> Result<(), Fail> {
     // Characters are counted, not bytes.
-    assert_eq!(*rt; stored(rt, text(rt, "äö")?, Kind::VarChar(2))?, "text");
-    assert_eq!(*rt; stored(rt, text(rt, "abc")?, Kind::VarChar(2))?, "long");
-    assert_eq!(*rt; stored(rt, long(rt, 1024)?, Kind::VarChar(4000))?, "text");
-    assert_eq!(*rt; stored(rt, long(rt, 1025)?, Kind::VarChar(4000))?, "long");
+    for (own, kind, want) in [
+        ("1", Kind::BigInt, "types"),
+        ("äö", Kind::VarChar(2), "text"),
+        ("abc", Kind::VarChar(2), "long"),
+    ] {
+        assert_eq!(rt; text_stored(&rt, own, kind)?, want);
+    }
+    assert_eq!(rt; long_stored(&rt, 1024)?, "text");
+    assert_eq!(rt; long_stored(&rt, 1025)?, "long");
     Ok(())
 }
 

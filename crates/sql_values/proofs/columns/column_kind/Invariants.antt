@@ -1,4 +1,4 @@
-use Rattle.std.proofs.Common.{◌≡◌, ◌+◌, length, drop, min, ◌^◌, ◌-◌}
+use Rattle.std.proofs.Common.{◌≡◌, drop}
 use Rattle.sql_values.specs.Columns.{column_kind}
 use Rattle.sql_values.proofs.columns.column_kind.Given as goal
 
