@@ -1,5 +1,1 @@
-pub mod Digits
-pub mod Forms
-pub mod PlainTexts
-pub mod Statements
-pub mod Words
+mod Examples

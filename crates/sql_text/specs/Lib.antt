@@ -1,3 +1,4 @@
+pub mod Tokens
+pub mod Rules
 pub mod Grammar
-pub mod Print
 pub mod Reading

@@ -1,9 +1,0 @@
-pub mod Clients
-pub mod Ends
-pub mod Keys
-pub mod LineWords
-pub mod Outputs
-pub mod Requests
-pub mod Runs
-pub mod Streaming
-pub mod Telling
