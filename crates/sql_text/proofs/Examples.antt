@@ -12,7 +12,7 @@ use Rattle.sql_values.specs.declared.tree.Cond.TheVariants as conds
 use Rattle.sql_text.specs.declared.statement.Statement.TheVariants as statements
 use Rattle.sql_text.specs.declared.statement.SelectItems.TheVariants as items
 use Rattle.sql_text.specs.Tokens.{placed_tokens, tokens_of, tokens_within, keyword_of}
-use Rattle.sql_text.specs.Reading.{statement_at, body_at, insert_at, expect, optional_at, table_at, column_list_at, literal_list_at, open_at, literal_at, name_at, select_at, select_items_at, item_at, column_at, alias_at, tab_at, where_at, cond_at, conj_at, neg_at, comparison_at, behind_column_at, compared_at, operand_at, behind_not_at, listed_at, ranged_at}
+use Rattle.sql_text.specs.Reading.{statement_at, body_at, insert_at, expect, optional_at, table_at, column_list_at, literal_list_at, open_at, literal_at, name_at, select_at, select_items_at, item_at, column_at, alias_at, tab_at, where_at, cond_at, neg_at, comparison_at, behind_column_at, compared_at, operand_at, behind_not_at, listed_at, ranged_at}
 
 words : placed_tokens (codes "Select a_1, `b`.c FROM spider.t") ≡
     ((tokens.Fixed Select, 31) ∷ (tokens.Bare (codes "a_1"), 24) ∷ (tokens.Fixed Comma, 21) ∷ (tokens.Quoted (codes "b"), 19) ∷ (tokens.Fixed Dot, 16) ∷ (tokens.Bare (codes "c"), 15)
@@ -42,12 +42,12 @@ equal_one n = conds.Compare (operands.Column (bare n)) comparisons.Equal (operan
 -- NOT binds tighter than AND, and that tighter than OR
 precedence : cond_at 2 (tokens_of (codes "a = 1 OR NOT b = 1 AND (c = 1 OR a = 1)")) ≡
     Ok (conds.Any (equal_one (codes "a") ∷ conds.All (conds.Not (equal_one (codes "b")) ∷ conds.Any (equal_one (codes "c") ∷ equal_one (codes "a") ∷ []) ∷ []) ∷ []), [])
-unfolding bare equal_one tokens_of placed_tokens cond_at neg_at conj_at comparison_at behind_column_at compared_at operand_at expect column_at name_at literal_at
+unfolding bare equal_one tokens_of placed_tokens cond_at neg_at comparison_at behind_column_at compared_at operand_at expect column_at name_at literal_at
 precedence = refl
 
 -- two openings inside one another are one too many
 too_deep_at : cond_at 1 (tokens_of (codes "(a = 1 OR NOT b = 1)")) ≡ Err (record { deep = true; left = 5 })
-unfolding bare equal_one tokens_of placed_tokens cond_at neg_at conj_at comparison_at behind_column_at compared_at operand_at expect column_at name_at literal_at
+unfolding bare equal_one tokens_of placed_tokens cond_at neg_at comparison_at behind_column_at compared_at operand_at expect column_at name_at literal_at
 too_deep_at = refl
 
 inserted : statement_at 1 (tokens_of (codes "insert t (k, v) values (1, +3), (2, NULL);")) ≡
@@ -65,5 +65,5 @@ selected : statement_at 0 (tokens_of (codes "SELECT a AS x, t.b FROM spider.t u 
       tab = record { table = codes "t"; alias = Some (codes "u") };
       cond = Some (conds.Between (bare (codes "a")) true (literals.Number (negsuc 0)) (literals.Number (pos 2)));
     }))
-unfolding bare tokens_of placed_tokens statement_at body_at select_at select_items_at item_at column_at alias_at tab_at where_at cond_at conj_at neg_at comparison_at behind_column_at behind_not_at ranged_at expect optional_at table_at literal_at name_at
+unfolding bare tokens_of placed_tokens statement_at body_at select_at select_items_at item_at column_at alias_at tab_at where_at cond_at neg_at comparison_at behind_column_at behind_not_at ranged_at expect optional_at table_at literal_at name_at
 selected = refl

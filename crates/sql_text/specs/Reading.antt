@@ -34,11 +34,15 @@ abbrev pub ◌>>=◌ : {A B : Type 0} → Result A Stop → (A → Result B Stop
 (Ok x) >>= f = f x
 (Err e) >>= f = Err e
 
+-- reading stops so, unless memory ran out
+abbrev pub Fails : {Y : Type 0} → ReadError → Result Y Stop → Type 0
+Fails errors.Memory read = Unit {0}
+Fails (errors.Stopped stop) read = read ≡ Err stop
+
 -- what a function answered, seen by view, is what reading gives, unless memory ran out
 abbrev pub Gives : {X Y : Type 0} → (X → Y) → Result X ReadError → Result Y Stop → Type 0
 Gives view (Ok x) read = read ≡ Ok (view x)
-Gives view (Err errors.Memory) read = Unit {0}
-Gives view (Err (errors.Stopped stop)) read = read ≡ Err stop
+Gives view (Err e) read = Fails e read
 
 -- a number of each keyword and symbol
 abbrev pub number_of : Fixed → ℕ
@@ -68,20 +72,14 @@ number_of AtMost = 22
 number_of Greater = 23
 number_of AtLeast = 24
 
--- a number of each kind of token
-abbrev pub kind_of : Token → ℕ
-kind_of (tokens.Fixed f) = number_of f
-kind_of (tokens.Bare n) = 100
-kind_of (tokens.Quoted n) = 100
-kind_of (tokens.Digits n) = 101
-kind_of (tokens.Signed n) = 102
-kind_of (tokens.Text t) = 103
-kind_of tokens.Bad = 104
+abbrev pub is_fixed : Fixed → Token → Bool
+is_fixed f (tokens.Fixed g) = number_of g == number_of f
+is_fixed f _ = false
 
 -- this keyword or symbol stands at the front
 abbrev pub begins : Fixed → List Token → Bool
 begins f [] = false
-begins f (t ∷ ts) = kind_of t == number_of f
+begins f (t ∷ ts) = is_fixed f t
 
 -- a token with a value stands at the front
 abbrev pub stands : {X : Type 0} → (Token → Option X) → List Token → Bool
@@ -194,15 +192,16 @@ conj_by neg ts = series_at And neg ts >>= λ parts. Ok (joined conds.All parts.0
 abbrev pub cond_by : (List Token → Result (Cond × List Token) Stop) → List Token → Result (Cond × List Token) Stop
 cond_by neg ts = series_at Or (conj_by neg) ts >>= λ parts. Ok (joined conds.Any parts.0, parts.1)
 
+-- a condition in parentheses, behind the first
+abbrev pub closed_by : (List Token → Result (Cond × List Token) Stop) → List Token → Result (Cond × List Token) Stop
+closed_by neg ts = cond_by neg ts >>= λ part. expect Close part.1 >>= λ rest. Ok (part.0, rest)
+
 unfoldable pub neg_at : ℕ → List Token → Result (Cond × List Token) Stop
 neg_at zero ts = if begins Not ts then too_deep ts else (if begins Open ts then too_deep ts else comparison_at zero ts)
 neg_at (suc depth) ts =
     if begins Not ts then (neg_at depth (behind ts) >>= λ part. Ok (conds.Not part.0, part.1))
-    else (if begins Open ts then (cond_by (neg_at depth) (behind ts) >>= λ part. expect Close part.1 >>= λ rest. Ok (part.0, rest))
+    else (if begins Open ts then closed_by (neg_at depth) (behind ts)
     else comparison_at (suc depth) ts)
-
-unfoldable pub conj_at : ℕ → List Token → Result (Cond × List Token) Stop
-conj_at depth ts = conj_by (neg_at depth) ts
 
 unfoldable pub cond_at : ℕ → List Token → Result (Cond × List Token) Stop
 cond_at depth ts = cond_by (neg_at depth) ts

@@ -1,8 +1,10 @@
 //! The text of statements and of requests between a front and a backend.
 #![tactic(auto)]
 
+mod cursor;
 mod fault;
 mod link;
+mod reading;
 mod statement;
 mod token;
 

@@ -19,9 +19,16 @@ pub enum LinkRequest {
     /// Rows of a table.
     Scan(Scan),
     /// To have these rows, each in place of one with its key.
-    Put { table: Name, rows: Rows },
+    Put {
+        table: Name,
+        rows: Rows,
+    },
     /// To have no rows with these keys.
-    Del { table: Name, key: Name, keys: Keys },
+    Del {
+        table: Name,
+        key: Name,
+        keys: Keys,
+    },
     /// To have no rows with keys from `low` to `high`.
     Clear {
         table: Name,
