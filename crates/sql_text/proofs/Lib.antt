@@ -1,2 +1,6 @@
 mod Examples
 pub mod Series
+pub mod Fields
+pub mod Choices
+pub mod Nested
+pub mod ReadRules

@@ -3,7 +3,9 @@
 
 mod cursor;
 mod fault;
+mod lexer;
 mod link;
+mod probe;
 mod reading;
 mod statement;
 mod token;

@@ -1,0 +1,9 @@
+ghost use Rattle.std.specs.Prelude.{◌≡◌, ◌+◌, ◌<◌, ℕ};
+
+#[tactic(auto, using(crate::proofs::ReadRules::whole_field))]
+pub fn probe(a: u8) -> u8
+    requires { a < 9 }
+    ensures { result ≡ a + 1 }
+{
+    a + 1
+}
