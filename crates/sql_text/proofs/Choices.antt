@@ -20,7 +20,7 @@ pub same_reader : {X : Type 0} (A : Rules X) (depth : ℕ) (read other : Reads X
 same_reader {X} A depth read other empty first further field h = subst (λ (r : Reads X). IsField A depth r empty first further) (same_pointwise read other h) field
 
 same_begun : {X : Type 0} (A B : Rules X) (depth : ℕ) → ((n : ℕ) (x : X) (ts : List Token) → A n x ts → B n x ts) → (front : List Token) → Begun A depth front → Begun B depth front
-same_begun A B depth to front b = record { deeper = b.deeper; enough = b.enough; value = b.value; more = b.more; spells = to (suc b.deeper) b.value (front ++ b.more) b.spells }
+same_begun A B depth to front b = record { value = b.value; more = b.more; spells = to (suc depth) b.value (front ++ b.more) b.spells }
 
 pub same_rule : {X : Type 0} (A B : Rules X) (depth : ℕ) (read : Reads X) (empty : Bool) (first further : List ℕ) → ((n : ℕ) (x : X) (ts : List Token) → A n x ts → B n x ts) → ((n : ℕ) (x : X) (ts : List Token) → B n x ts → A n x ts)
     → IsField A depth read empty first further → IsField B depth read empty first further
@@ -35,7 +35,7 @@ same_rule A B depth read empty first further to from field = record {
         left = s.left;
         begins = same_begun A B depth to s.before s.begins;
         stays = s.stays;
-        deep = λ d. let q = s.deep d in (q.0, q.1, q.2, same_begun A B depth to (s.before ++ (q.0 ∷ [])) q.3);
+        deep = λ d. let q = s.deep d in (q.0, q.1, q.2, q.3, same_begun A B depth to (s.before ++ (q.0 ∷ [])) q.4);
       };
   some = λ n. let s = field.some n in record { value = s.value; text = s.text; spells = to (suc n) s.value s.text s.spells };
   again = λ n x front rest h clear. field.again n x front rest (from n x front h) clear;
@@ -60,10 +60,10 @@ told test kinds tells ts front after b old new v split k e =
     tells_alike test kinds tells front b old new ∙ ap test (sym (split ∙ ap (λ (l : List Token). front ++ l) k)) ∙ e
 
 left_begun : {X : Type 0} (A B : Rules X) (depth : ℕ) (front : List Token) → Begun A depth front → Begun (λ n. A n ∣ B n) depth front
-left_begun A B depth front b = record { deeper = b.deeper; enough = b.enough; value = b.value; more = b.more; spells = inl b.spells }
+left_begun A B depth front b = record { value = b.value; more = b.more; spells = inl b.spells }
 
 right_begun : {X : Type 0} (A B : Rules X) (depth : ℕ) (front : List Token) → Begun B depth front → Begun (λ n. A n ∣ B n) depth front
-right_begun A B depth front b = record { deeper = b.deeper; enough = b.enough; value = b.value; more = b.more; spells = inr b.spells }
+right_begun A B depth front b = record { value = b.value; more = b.more; spells = inr b.spells }
 
 pub either_field : {X : Type 0} (A : Rules X) (a : Reads X) (B : Rules X) (b : Reads X) (test : List Token → Bool) (depth : ℕ) (empty : Bool) (first_a further_a first_b further_b : List ℕ)
     → IsField A depth a false first_a further_a → IsField B depth b empty first_b further_b → Tells test first_a → apart first_b first_a ≡ true
@@ -105,7 +105,7 @@ either_field {X} A a B b test depth empty first_a further_a first_b further_b fa
                   left = s.left;
                   begins = left_begun A B depth s.before s.begins;
                   stays = λ c old new m. goes (s.before ++ (c ∷ new)) true (told test first_a tells ts s.before s.after c old new true s.split m k.0) ∙ s.stays c old new m;
-                  deep = λ d. let q = s.deep d in (q.0, q.1, q.2, left_begun A B depth (s.before ++ (q.0 ∷ [])) q.3);
+                  deep = λ d. let q = s.deep d in (q.0, q.1, q.2, q.3, left_begun A B depth (s.before ++ (q.0 ∷ [])) q.4);
                 }
             | inr k ↦
                 let s = fb.stuck ts stop k.1 in
@@ -116,7 +116,7 @@ either_field {X} A a B b test depth empty first_a further_a first_b further_b fa
                   left = s.left;
                   begins = right_begun A B depth s.before s.begins;
                   stays = λ c old new m. goes (s.before ++ (c ∷ new)) false (told test first_a tells ts s.before s.after c old new false s.split m k.0) ∙ s.stays c old new m;
-                  deep = λ d. let q = s.deep d in (q.0, q.1, q.2, right_begun A B depth (s.before ++ (q.0 ∷ [])) q.3);
+                  deep = λ d. let q = s.deep d in (q.0, q.1, q.2, q.3, right_begun A B depth (s.before ++ (q.0 ∷ [])) q.4);
                 }
           ];
       some = λ n. let s = fa.some n in record { value = s.value; text = s.text; spells = inl s.spells };

@@ -8,6 +8,7 @@ use Rattle.sql_text.specs.declared.token.Token.TheVariants as tokens
 use Rattle.sql_text.specs.declared.fault.Stop.{Stop}
 use Rattle.sql_text.specs.Rules.{Rule, is, one, ◌⊳◌, ◌▷◌, ◌∣◌, Sequence}
 use Rattle.sql_text.specs.declared.token.Fixed.TheVariants.{And, As, Between, From, In, Insert, Into, Not, Null, Or, Select, Values, Where, Open, Close, Comma, Dot, Star, Semicolon, Equal, NotEqual, Less, AtMost, Greater, AtLeast}
+use Rattle.sql_text.specs.Places.{is_opening}
 use Rattle.sql_text.specs.Reading.{◌>>=◌, number_of, syntax, too_deep, value_before, one_at, expect, is_fixed}
 
 abbrev pub Reads : Type 0 → Type 0
@@ -117,13 +118,11 @@ pub record Took {X : Type 0} (A : Rules X) (depth : ℕ) (read : Reads X) (ts : 
   pub spells : (deeper : ℕ) → depth ≤ deeper → A deeper x front
   pub looks : (b : Token) (old new : List Token) → rest ≡ b ∷ old → read (front ++ (b ∷ new)) ≡ Ok (x, b ∷ new)
 
--- a text of the rule begins with these tokens, with enough openings
+-- a text of the rule with one opening more begins with these tokens
 pub record Begun {X : Type 0} (A : Rules X) (depth : ℕ) (front : List Token) : Type 0 where
-  pub deeper : ℕ
-  pub enough : depth ≤ deeper
   pub value : X
   pub more : List Token
-  pub spells : A (suc deeper) value (front ++ more)
+  pub spells : A (suc depth) value (front ++ more)
 
 abbrev pub stop_at : Bool → ℕ → Stop
 stop_at deep left = record { deep = deep; left = left }
@@ -136,7 +135,7 @@ pub record Stuck {X : Type 0} (A : Rules X) (depth : ℕ) (read : Reads X) (ts :
   pub left : stop.left ≡ length after
   pub begins : Begun A depth before
   pub stays : (b : Token) (old new : List Token) → after ≡ b ∷ old → read (before ++ (b ∷ new)) ≡ Err (stop_at stop.deep (suc (length new)))
-  pub deep : stop.deep ≡ true → (b : Token) × (old : List Token) × (after ≡ b ∷ old) × Begun A depth (before ++ (b ∷ []))
+  pub deep : stop.deep ≡ true → (b : Token) × (old : List Token) × (after ≡ b ∷ old) × (is_opening b ≡ true) × Begun A depth (before ++ (b ∷ []))
 
 -- this was read, or there are too few openings
 abbrev pub Near : {Y : Type 0} → ℕ → ℕ → Y → Result Y Stop → Type 0
@@ -240,7 +239,7 @@ one_stuck value kinds known depth [] stop e =
       after = [];
       split = refl;
       left = ap (λ (k : Stop). k.left) s;
-      begins = record { deeper = depth; enough = omega arith; value = known.example; more = known.token ∷ []; spells = (known.token, refl, known.known) };
+      begins = record { value = known.example; more = known.token ∷ []; spells = (known.token, refl, known.known) };
       stays = λ b old new k. absurd cc;
       deep = λ h. absurd (let f : stop.deep ≡ false = ap (λ (k : Stop). k.deep) s in cc);
     }
@@ -252,7 +251,7 @@ one_stuck value kinds known depth (t ∷ ts) stop e =
       after = t ∷ ts;
       split = refl;
       left = ap (λ (k : Stop). k.left) v.1;
-      begins = record { deeper = depth; enough = omega arith; value = known.example; more = known.token ∷ []; spells = (known.token, refl, known.known) };
+      begins = record { value = known.example; more = known.token ∷ []; spells = (known.token, refl, known.known) };
       stays = λ b old new k.
           let same : t ≡ b = cc in
           let none : value b ≡ None = ap value (sym same) ∙ v.0 in
@@ -389,7 +388,7 @@ pub self_member : (n : ℕ) → member n (n ∷ []) ≡ true
 self_member n = let e : (n == n) ≡ true = grind (arith, nat_tests) in or_left (n == n) false e
 
 fixed_begun : {X : Type 0} (f : Fixed) (A : Rules X) (depth : ℕ) (front : List Token) → Begun A depth front → Begun (λ n. f ⊳ A n) depth (tokens.Fixed f ∷ front)
-fixed_begun f A depth front b = record { deeper = b.deeper; enough = b.enough; value = b.value; more = b.more; spells = (front ++ b.more, refl, b.spells) }
+fixed_begun f A depth front b = record { value = b.value; more = b.more; spells = (front ++ b.more, refl, b.spells) }
 
 pub fixed_field : {X : Type 0} (f : Fixed) (A : Rules X) (depth : ℕ) (read : Reads X) (empty : Bool) (first further : List ℕ)
     → IsField A depth read empty first further → IsField (λ n. f ⊳ A n) depth (λ ts. expect f ts >>= read) false (number_of f ∷ []) further
@@ -413,7 +412,7 @@ fixed_field {X} f A depth read empty first further field = record {
               after = ts;
               split = refl;
               left = ap (λ (k : Stop). k.left) m.stops;
-              begins = record { deeper = depth; enough = omega arith; value = s.value; more = tokens.Fixed f ∷ s.text; spells = (s.text, refl, s.spells) };
+              begins = record { value = s.value; more = tokens.Fixed f ∷ s.text; spells = (s.text, refl, s.spells) };
               stays = λ b old new k.
                   let no : stop.deep ≡ false = ap (λ (k : Stop). k.deep) m.stops in
                   ap (λ r. r >>= read) (m.stays b old new k) ∙ ap (λ d. Err (stop_at d (suc (length new)))) (sym no);
@@ -428,7 +427,7 @@ fixed_field {X} f A depth read empty first further field = record {
               left = s.left;
               begins = fixed_begun f A depth s.before s.begins;
               stays = λ b old new k. ap (λ r. r >>= read) (expected f (s.before ++ (b ∷ new))) ∙ s.stays b old new k;
-              deep = λ d. let q = s.deep d in (q.0, q.1, q.2, fixed_begun f A depth (s.before ++ (q.0 ∷ [])) q.3);
+              deep = λ d. let q = s.deep d in (q.0, q.1, q.2, q.3, fixed_begun f A depth (s.before ++ (q.0 ∷ [])) q.4);
             }
       ];
   some = λ deeper. let s = field.some deeper in record { value = s.value; text = tokens.Fixed f ∷ s.text; spells = (s.text, refl, s.spells) };
@@ -445,10 +444,8 @@ fixed_field {X} f A depth read empty first further field = record {
 then_begun : {X Y : Type 0} (A : Rules X) (B : X → Rules Y) (depth : ℕ) → ((x : X) (deeper : ℕ) → Some_text (B x (suc deeper)))
     → (front : List Token) → Begun A depth front → Begun (λ n. A n ▷ λ x. B x n) depth front
 then_begun A B depth some front b =
-    let s = some b.value b.deeper in
+    let s = some b.value depth in
     record {
-      deeper = b.deeper;
-      enough = b.enough;
       value = s.value;
       more = b.more ++ s.text;
       spells = (b.value, record { front = front ++ b.more; rest = s.text; whole = sym (append_assoc front b.more s.text); first = b.spells; second = s.spells });
@@ -457,11 +454,9 @@ then_begun A B depth some front b =
 second_begun : {X Y : Type 0} (A : Rules X) (B : X → Rules Y) (depth : ℕ) (x : X) (taken front : List Token) → ((deeper : ℕ) → depth ≤ deeper → A deeper x taken)
     → Begun (B x) depth front → Begun (λ n. A n ▷ λ x. B x n) depth (taken ++ front)
 second_begun A B depth x taken front spells b = record {
-  deeper = b.deeper;
-  enough = b.enough;
   value = b.value;
   more = b.more;
-  spells = (x, record { front = taken; rest = front ++ b.more; whole = append_assoc taken front b.more; first = spells (suc b.deeper) (let e = b.enough in omega arith); second = b.spells });
+  spells = (x, record { front = taken; rest = front ++ b.more; whole = append_assoc taken front b.more; first = spells (suc depth) (omega arith); second = b.spells });
 }
 
 -- the first value is read again where the tokens behind it begin in the same way
@@ -522,7 +517,7 @@ then_field {X} {Y} A a B b depth empty_a empty_b first_a further_a first_b furth
               left = s.left;
               begins = then_begun A B depth (λ x. (fb x).some) s.before s.begins;
               stays = λ c old new k. ap (λ r. r >>= λ p. b p.0 p.1) (s.stays c old new k);
-              deep = λ d. let q = s.deep d in (q.0, q.1, q.2, then_begun A B depth (λ x. (fb x).some) (s.before ++ (q.0 ∷ [])) q.3);
+              deep = λ d. let q = s.deep d in (q.0, q.1, q.2, q.3, then_begun A B depth (λ x. (fb x).some) (s.before ++ (q.0 ∷ [])) q.4);
             }
         | inr h ↦
             let t = fa.took ts h.0.0 h.0.1 h.1 in
@@ -539,7 +534,7 @@ then_field {X} {Y} A a B b depth empty_a empty_b first_a further_a first_b furth
                   ∙ s.stays c old new k;
               deep = λ d.
                   let q = s.deep d in
-                  (q.0, q.1, q.2, subst (Begun (λ n. A n ▷ λ x. B x n) depth) (sym (append_assoc t.front s.before (q.0 ∷ []))) (second_begun A B depth h.0.0 t.front (s.before ++ (q.0 ∷ [])) t.spells q.3));
+                  (q.0, q.1, q.2, q.3, subst (Begun (λ n. A n ▷ λ x. B x n) depth) (sym (append_assoc t.front s.before (q.0 ∷ []))) (second_begun A B depth h.0.0 t.front (s.before ++ (q.0 ∷ [])) t.spells q.4));
             }
       ];
   some = λ deeper.

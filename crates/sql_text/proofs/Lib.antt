@@ -4,3 +4,4 @@ pub mod Fields
 pub mod Choices
 pub mod Nested
 pub mod ReadRules
+pub mod Statements

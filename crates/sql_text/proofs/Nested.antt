@@ -9,6 +9,7 @@ use Rattle.sql_text.specs.declared.token.Token.{Token}
 use Rattle.sql_text.specs.declared.token.Token.TheVariants as tokens
 use Rattle.sql_text.specs.declared.fault.Stop.{Stop}
 use Rattle.sql_text.specs.Rules.{Rule, is, ◌⊳◌, ◌▷◌, ◌∣◌, opens, further, series, at_most_further, parenthesized}
+use Rattle.sql_text.specs.Places.{is_opening}
 use Rattle.sql_text.specs.Reading.{◌>>=◌, number_of, is_fixed, begins, behind, expect, open_at, further_at, series_at, parenthesized_at, with_front, too_deep, syntax}
 use Rattle.sql_text.proofs.Fields.{Reads, Rules, kind_of, member, apart, self_member, self_equal, or_false, Clear, clear_left, clear_right, none_left, none_right, both_false, Took, Begun, Stuck, stop_at, Near, Reach, Some_text, IsField, is_fixed_is, expected, chosen, is_field, fixed_field, then_field, bind_ok, bind_err}
 use Rattle.sql_text.proofs.Choices.{same_reader, same_rule, fixed_or}
@@ -48,9 +49,9 @@ zero_again {X} f A read (suc deeper) x front rest h =
     let near : Reach zero (suc deeper) x rest (Err (stop_at (begins f (front ++ rest)) (length (front ++ rest)))) = (deep, omega arith) in
     subst (Reach zero (suc deeper) x rest) (sym (zero_is f read (front ++ rest))) near
 
-zero_stuck : {X : Type 0} (f : Fixed) (A : Rules X) (read : Reads X) → ((n : ℕ) → Some_text (A n)) → (ts : List Token) (stop : Stop) → (open_at f zero ts >>= read) ≡ Err stop
+zero_stuck : {X : Type 0} (f : Fixed) (A : Rules X) (read : Reads X) → is_opening (tokens.Fixed f) ≡ true → ((n : ℕ) → Some_text (A n)) → (ts : List Token) (stop : Stop) → (open_at f zero ts >>= read) ≡ Err stop
     → Stuck (opens f A) zero (λ ts. open_at f zero ts >>= read) ts stop
-zero_stuck {X} f A read flat ts stop e =
+zero_stuck {X} f A read opening flat ts stop e =
     let s : stop ≡ stop_at (begins f ts) (length ts) = (let r : Result (X × List Token) Stop = open_at f zero ts >>= read in let e' : r ≡ Err stop = e in let z : r ≡ Err (stop_at (begins f ts) (length ts)) = zero_is f read ts in cc) in
     let d : stop.deep ≡ begins f ts = ap (λ (k : Stop). k.deep) s in
     let u = flat 0 in
@@ -59,20 +60,20 @@ zero_stuck {X} f A read flat ts stop e =
       after = ts;
       split = refl;
       left = ap (λ (k : Stop). k.left) s;
-      begins = record { deeper = 0; enough = omega arith; value = u.value; more = tokens.Fixed f ∷ u.text; spells = (u.text, refl, u.spells) };
+      begins = record { value = u.value; more = tokens.Fixed f ∷ u.text; spells = (u.text, refl, u.spells) };
       stays = λ b old new k. zero_is f read (b ∷ new) ∙ ap (λ v. Err (stop_at v (suc (length new)))) (begins_same f ts b old new k ∙ sym d);
       deep = λ h.
           let yes : begins f ts ≡ true = sym d ∙ h in
           let t = begins_some f ts yes in
           let is_f : t.0 ≡ tokens.Fixed f = is_fixed_is f t.0 (ap (begins f) (sym t.2) ∙ yes) in
-          let v = flat 1 in
-          (t.0, t.1, t.2, record { deeper = 1; enough = omega arith; value = v.value; more = v.text; spells = (v.text, ap (λ a. a ∷ v.text) is_f, v.spells) });
+          let v = flat 0 in
+          (t.0, t.1, t.2, ap is_opening is_f ∙ opening, record { value = v.value; more = v.text; spells = (v.text, ap (λ a. a ∷ v.text) is_f, v.spells) });
     }
 
-pub zero_field : {X : Type 0} (f : Fixed) (A : Rules X) (read : Reads X) (further : List ℕ) → ((n : ℕ) → Some_text (A n)) → IsField (opens f A) zero (λ ts. open_at f zero ts >>= read) false (number_of f ∷ []) further
-zero_field {X} f A read further flat = record {
+pub zero_field : {X : Type 0} (f : Fixed) (A : Rules X) (read : Reads X) (further : List ℕ) → is_opening (tokens.Fixed f) ≡ true → ((n : ℕ) → Some_text (A n)) → IsField (opens f A) zero (λ ts. open_at f zero ts >>= read) false (number_of f ∷ []) further
+zero_field {X} f A read further opening flat = record {
   took = λ ts x rest e. absurd (let r : Result (X × List Token) Stop = open_at f zero ts >>= read in let e' : r ≡ Ok (x, rest) = e in let z : r ≡ Err (stop_at (begins f ts) (length ts)) = zero_is f read ts in cc);
-  stuck = zero_stuck f A read flat;
+  stuck = zero_stuck f A read opening flat;
   some = λ n. let u = flat n in record { value = u.value; text = tokens.Fixed f ∷ u.text; spells = (u.text, refl, u.spells) };
   again = λ n x front rest h clear. zero_again f A read n x front rest h;
   begins = opens_begins f A;
@@ -85,7 +86,7 @@ lifted f A depth x front spells zero h = absurd (omega arith)
 lifted f A depth x front spells (suc n) h = spells n (omega arith)
 
 lifted_begun : {X : Type 0} (f : Fixed) (A : Rules X) (depth : ℕ) (front : List Token) → Begun (λ n. f ⊳ A n) depth front → Begun (opens f A) (suc depth) front
-lifted_begun f A depth front b = record { deeper = suc b.deeper; enough = (let e = b.enough in omega arith); value = b.value; more = b.more; spells = b.spells }
+lifted_begun f A depth front b = record { value = b.value; more = b.more; spells = b.spells }
 
 near_suc : {Y : Type 0} (depth deeper : ℕ) (y : Y) (r : Result Y Stop) → Near depth deeper y r → Near (suc depth) (suc deeper) y r
 near_suc depth deeper y (Ok z) h = h
@@ -116,7 +117,7 @@ suc_field {X} f A depth read empty first further flat field =
             left = s.left;
             begins = lifted_begun f A depth s.before s.begins;
             stays = s.stays;
-            deep = λ d. let q = s.deep d in (q.0, q.1, q.2, lifted_begun f A depth (s.before ++ (q.0 ∷ [])) q.3);
+            deep = λ d. let q = s.deep d in (q.0, q.1, q.2, q.3, lifted_begun f A depth (s.before ++ (q.0 ∷ [])) q.4);
           };
       some = λ n. let u = flat n in record { value = u.value; text = tokens.Fixed f ∷ u.text; spells = (u.text, refl, u.spells) };
       again = suc_again f A depth (λ ts. expect f ts >>= read) false (number_of f ∷ []) further inner;
@@ -126,15 +127,15 @@ suc_field {X} f A depth read empty first further flat field =
     (suc_is f depth read)
 
 -- what a rule without openings is inside an opening
-pub opens_field : {X : Type 0} (f : Fixed) (A : Rule X) (depth : ℕ) (read : Reads X) (empty : Bool) (first further : List ℕ) → ((n : ℕ) → IsField (λ _. A) n read empty first further)
+pub opens_field : {X : Type 0} (f : Fixed) (A : Rule X) (depth : ℕ) (read : Reads X) (empty : Bool) (first further : List ℕ) → is_opening (tokens.Fixed f) ≡ true → ((n : ℕ) → IsField (λ _. A) n read empty first further)
     → IsField (opens f (λ _. A)) depth (λ ts. open_at f depth ts >>= read) false (number_of f ∷ []) further
-opens_field f A zero read empty first further field = zero_field f (λ _. A) read further (λ n. (field 0).some 0)
-opens_field f A (suc depth) read empty first further field = suc_field f (λ _. A) depth read empty first further (λ n. (field 0).some 0) (field depth)
+opens_field f A zero read empty first further opening field = zero_field f (λ _. A) read further opening (λ n. (field 0).some 0)
+opens_field f A (suc depth) read empty first further opening field = suc_field f (λ _. A) depth read empty first further (λ n. (field 0).some 0) (field depth)
 
 pub parenthesized_field : {X : Type 0} (A : Rule X) (depth : ℕ) (read : Reads X) (empty : Bool) (first further : List ℕ) → ((n : ℕ) → IsField (λ _. A) n read empty first further) → apart (number_of Close ∷ []) further ≡ true
     → IsField (parenthesized A) depth (parenthesized_at read depth) false (number_of Open ∷ []) []
 parenthesized_field {X} A depth read empty first further field away =
-    opens_field Open (A ▷ λ x. Close ⊳ is x) depth (λ inside. read inside >>= λ x. expect Close x.1 >>= λ rest. Ok (x.0, rest)) (empty && false) (first ++ cond empty (number_of Close ∷ []) []) []
+    opens_field Open (A ▷ λ x. Close ⊳ is x) depth (λ inside. read inside >>= λ x. expect Close x.1 >>= λ rest. Ok (x.0, rest)) (empty && false) (first ++ cond empty (number_of Close ∷ []) []) [] refl
     (λ n. then_field (λ _. A) read (λ (x : X) _. Close ⊳ is x) (λ (x : X) ts. expect Close ts >>= λ rest. Ok (x, rest)) n empty false first further (number_of Close ∷ []) [] (field n)
         (λ x. fixed_field Close (λ _. is x) n (λ rest. Ok (x, rest)) true [] [] (is_field x n)) away)
 
@@ -264,7 +265,7 @@ same_cut (x ∷ a) b (y ∷ c) d e l =
     ap (λ (s : List Token). x ∷ s) (same_cut a b c d tails l) ∙ ap (λ h. h ∷ c) heads
 
 few_begun : {X : Type 0} (count : ℕ) (f : Fixed) (A : Rules X) (depth : ℕ) (front : List Token) → Begun (λ n. at_most_further count f (A n)) depth front → Begun (λ n. further f (A n)) depth front
-few_begun count f A depth front b = record { deeper = b.deeper; enough = b.enough; value = b.value; more = b.more; spells = few_to count f (A (suc b.deeper)) b.value (front ++ b.more) b.spells }
+few_begun count f A depth front b = record { value = b.value; more = b.more; spells = few_to count f (A (suc depth)) b.value (front ++ b.more) b.spells }
 
 further_begins : {X : Type 0} (f : Fixed) (A : Rules X) (n : ℕ) (xs : List X) (c : Token) (cs : List Token) → further f (A n) xs (c ∷ cs) → member (kind_of c) (number_of f ∷ []) ≡ true
 further_begins f A n [] c cs h = absurd cc
@@ -306,7 +307,7 @@ further_field {X} f A a depth first_a further_a field away =
                 let same : u.before ≡ s.before = same_cut u.before u.after s.before s.after (sym u.split ∙ s.split) (sym u.left ∙ s.left) in
                 let same_after : u.after ≡ s.after = append_cancel_left s.before u.after s.after (ap (λ (l : List Token). l ++ u.after) (sym same) ∙ sym u.split ∙ s.split) in
                 sym (widest goal_tokens n (omega arith)) ∙ ap (λ (l : List Token). further_at n f a (l ++ (b ∷ new))) (sym same) ∙ u.stays b old new (same_after ∙ k);
-            deep = λ d. let q = s.deep d in (q.0, q.1, q.2, few_begun (length ts) f A depth (s.before ++ (q.0 ∷ [])) q.3);
+            deep = λ d. let q = s.deep d in (q.0, q.1, q.2, q.3, few_begun (length ts) f A depth (s.before ++ (q.0 ∷ [])) q.4);
           };
       some = λ n. record { value = []; text = []; spells = refl };
       again = λ n xs front rest h clear.

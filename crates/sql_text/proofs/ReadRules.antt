@@ -448,7 +448,7 @@ neg_field : (depth : ℕ) → IsField neg depth (neg_at depth) false neg_kinds (
 neg_field zero =
     same_reader neg zero (λ ts. cond (begins Not ts) (open_at Not zero ts >>= negated_at zero) (cond (begins Open ts) (open_at Open zero ts >>= closed_by (neg_at zero)) (comparison_at zero ts))) (neg_at zero) false neg_kinds (16 ∷ [])
     (any_field zero (λ ts. open_at Not zero ts >>= negated_at zero) (λ ts. open_at Open zero ts >>= closed_by (neg_at zero))
-        (zero_field Not negated (negated_at zero) (16 ∷ []) some_negated) (zero_field Open enclosed (closed_by (neg_at zero)) [] some_enclosed))
+        (zero_field Not negated (negated_at zero) (16 ∷ []) refl some_negated) (zero_field Open enclosed (closed_by (neg_at zero)) [] refl some_enclosed))
     zero_neg
 neg_field (suc depth) =
     same_reader neg (suc depth)

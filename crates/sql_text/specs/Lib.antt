@@ -2,3 +2,4 @@ pub mod Tokens
 pub mod Rules
 pub mod Grammar
 pub mod Reading
+pub mod Places

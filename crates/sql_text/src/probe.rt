@@ -1,6 +1,6 @@
 ghost use Rattle.std.specs.Prelude.{◌≡◌, ◌+◌, ◌<◌, ℕ};
 
-#[tactic(auto, using(crate::proofs::ReadRules::whole_field))]
+#[tactic(auto, using(crate::proofs::Statements::read_bad))]
 pub fn probe(a: u8) -> u8
     requires { a < 9 }
     ensures { result ≡ a + 1 }
