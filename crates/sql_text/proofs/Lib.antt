@@ -5,3 +5,5 @@ pub mod Choices
 pub mod Nested
 pub mod ReadRules
 pub mod Statements
+pub mod Bytes
+pub mod Parses

@@ -178,6 +178,15 @@ skipped (Some rest) = (None, rest)
 abbrev pub seen : Token × List ℕ → Option Token × List ℕ
 seen r = (Some r.0, r.1)
 
+-- a token that is no word and begins with this byte
+abbrev pub other_at : ℕ → List ℕ → Token × List ℕ
+other_at b bytes =
+    if b == 43 then signed_at false bytes
+    else (if b == 45 then signed_at true bytes
+    else (if b == 39 || b == 34 then text_at (text_from b Plain bytes)
+    else (if b == 96 then quoted_at (up_to 96 bytes)
+    else symbol_at b bytes)))
+
 abbrev pub lexeme_at : List ℕ → Option Token × List ℕ
 lexeme_at [] = (None, [])
 lexeme_at (b ∷ bytes) =
@@ -185,11 +194,7 @@ lexeme_at (b ∷ bytes) =
     else (if b == 47 && starts 42 bytes then skipped (comment_at (rest_of bytes))
     else (if begins_name b then seen (word_at (b ∷ bytes))
     else (if is_ascii_digit b then seen (digits_at (b ∷ bytes))
-    else (if b == 43 then seen (signed_at false bytes)
-    else (if b == 45 then seen (signed_at true bytes)
-    else (if b == 39 || b == 34 then seen (text_at (text_from b Plain bytes))
-    else (if b == 96 then seen (quoted_at (up_to 96 bytes))
-    else seen (symbol_at b bytes))))))))
+    else seen (other_at b bytes))))
 
 abbrev pub is_bad : Token → Bool
 is_bad tokens.Bad = true

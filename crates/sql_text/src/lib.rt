@@ -5,6 +5,7 @@ mod cursor;
 mod fault;
 mod lexer;
 mod link;
+mod parsing;
 mod probe;
 mod reading;
 mod statement;
@@ -12,5 +13,6 @@ mod token;
 
 pub use fault::ParseFault;
 pub use link::{Cell, LinkAnswer, LinkRequest, Scan, ScanItems};
+pub use parsing::{MOST_OPENINGS, parse};
 pub use statement::{Insert, Item, ItemList, Names, Select, SelectItems, Statement, Tab, Tuples};
 pub use token::{Fixed, Token};

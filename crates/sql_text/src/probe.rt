@@ -1,6 +1,6 @@
 ghost use Rattle.std.specs.Prelude.{◌≡◌, ◌+◌, ◌<◌, ℕ};
 
-#[tactic(auto, using(crate::proofs::Statements::read_bad))]
+#[tactic(auto, using(crate::proofs::Parses::refused))]
 pub fn probe(a: u8) -> u8
     requires { a < 9 }
     ensures { result ≡ a + 1 }
