@@ -1,13 +1,14 @@
 -- Bytes and the numbers and texts that they stand for.
-use Rattle.std.proofs.Common.{◌≡◌, ℕ, zero, suc, ◌+◌, ◌-◌, ◌*◌, ◌^◌, ◌<◌, ◌≤◌, ◌⊎◌, inl, inr, min, List, [], ◌∷◌, ◌++◌, length, Bool, true, false, cond, Option, Some, None, refl, sym, ap, subst, ◌∙◌, append_assoc, arith}
-use Rattle.std.specs.Prelude.{◌==◌, ◌&&◌, ◌||◌, nat_lt, nat_le}
+use Rattle.std.proofs.Common.{◌≡◌, ℕ, zero, suc, ◌+◌, ◌-◌, ◌*◌, ◌^◌, ◌<◌, ◌≤◌, ◌⊎◌, inl, inr, min, map, List, [], ◌∷◌, ◌++◌, length, Bool, true, false, cond, Option, Some, None, refl, sym, ap, subst, ◌∙◌, append_assoc, arith}
+use Rattle.std.specs.Prelude.{◌==◌, ◌&&◌, ◌||◌, nat_lt, nat_le, option_map}
 use Rattle.std.specs.List.{list_all}
 use Rattle.std.specs.Str.{IsAscii, IsUtf8}
+use Rattle.std.proofs.lemmas.List.{map-append}
 use Rattle.std.proofs.lemmas.Str.{IsUtf8-from_ascii}
 use Rattle.std.proofs.lemmas.Str.Ascii.{IsAscii-nil, IsAscii-cons}
 use Rattle.std.proofs.lemmas.Bool.Decides.{nat_tests, leb_tells}
 use Rattle.sql_values.specs.Names.{is_name, begins_name, continues_name}
-use Rattle.sql_text.specs.Tokens.{value_after, digits_token, signed_token, Plain, Quote, Escape, text_from, onto, onto_some, escape_of, starts, rest_of}
+use Rattle.sql_text.specs.Tokens.{value_after, digits_token, signed_token, Plain, Quote, Escape, text_from, onto, onto_some, escape_of, starts, rest_of, Placed, Step, step_at, onward, tokens_within}
 use Rattle.sql_text.specs.Lexing.{cap, onto_all, Piece, piece_at, escape_at, escaped_piece, text_by}
 use Rattle.sql_text.proofs.Fields.{and_true, or_true}
 
@@ -32,6 +33,20 @@ name_utf8 (b ∷ bytes) h =
     let p = and_true (begins_name b) (nat_lt (length bytes) 64 && list_all continues_name bytes) h in
     let q = and_true (nat_lt (length bytes) 64) (list_all continues_name bytes) p.1 in
     IsUtf8-from_ascii (b ∷ bytes) (IsAscii-cons b bytes (continues_below b (begins_continues b p.0)) (all_ascii bytes q.1))
+
+name_found_at : (text name : List ℕ) (b : Bool) → name ≡ text → ((b ≡ true → ⊥) → ⊥) → Some name ≡ cond b (Some text) None
+name_found_at text name true e h = ap Some e
+name_found_at text name false e h = absurd (h (λ f. cc))
+
+name_missed_at : (text : List ℕ) (b : Bool) → (b ≡ true → ⊥) → (let none : Option (List ℕ) = None in none ≡ cond b (Some text) None)
+name_missed_at text true h = absurd (h refl)
+name_missed_at text false h = refl
+
+pub name_found : (text name : List ℕ) → name ≡ text → ((is_name text ≡ true → ⊥) → ⊥) → Some name ≡ cond (is_name text) (Some text) None
+name_found text name e h = name_found_at text name (is_name text) e h
+
+pub name_missed : (text : List ℕ) → (is_name text ≡ true → ⊥) → (let none : Option (List ℕ) = None in none ≡ cond (is_name text) (Some text) None)
+name_missed text h = name_missed_at text (is_name text) h
 
 -- NUMBERS
 
@@ -95,3 +110,38 @@ text_is quote (b ∷ bytes) =
 pub onto_again : (front : List ℕ) (b : ℕ) (r : Option (List ℕ × List ℕ)) → onto_all (front ++ b ∷ []) r ≡ onto_all front (onto b r)
 onto_again front b None = refl
 onto_again front b (Some r) = ap (λ (l : List ℕ). Some (l, r.1)) (append_assoc front (b ∷ []) r.0)
+
+-- TOKENS
+
+some_is : {A : Type 0} (x y : A) → Some x ≡ Some y → x ≡ y
+some_is x y h = cc
+
+onward_none : (again : Bool → List ℕ → List Placed) (s : Step) → s.1 ≡ None → onward again s ≡ s.0
+onward_none again (found, None) h = refl
+onward_none again (found, Some next) h = absurd cc
+
+onward_some : (again : Bool → List ℕ → List Placed) (s : Step) (touching : Bool) (rest : List ℕ) → s.1 ≡ Some (touching, rest) → onward again s ≡ s.0 ++ again touching rest
+onward_some again (found, None) touching rest h = absurd cc
+onward_some again (found, Some next) touching rest h = ap (λ (p : Bool × List ℕ). found ++ again p.0 p.1) (some_is next (touching, rest) h)
+
+-- the last step
+pub last_step : {B : Type 0} (g : Placed → B) (n : ℕ) (touching : Bool) (bytes : List ℕ) (out : List B) → (step_at touching bytes).1 ≡ None
+    → out ++ map g (step_at touching bytes).0 ≡ out ++ map g (tokens_within (suc n) touching bytes)
+last_step g n touching bytes out h = ap (λ (l : List Placed). out ++ map g l) (sym (onward_none (tokens_within n) (step_at touching bytes) h))
+
+-- a step, and those behind it
+pub more_steps : {B : Type 0} (g : Placed → B) (n : ℕ) (touching next : Bool) (bytes rest : List ℕ) (out : List B) → (step_at touching bytes).1 ≡ Some (next, rest)
+    → (out ++ map g (step_at touching bytes).0) ++ map g (tokens_within n next rest) ≡ out ++ map g (tokens_within (suc n) touching bytes)
+more_steps {B} g n touching next bytes rest out h =
+    append_assoc out (map g (step_at touching bytes).0) (map g (tokens_within n next rest))
+    ∙ ap (λ (l : List B). out ++ l) (sym (map-append g (step_at touching bytes).0 (tokens_within n next rest)))
+    ∙ ap (λ (l : List Placed). out ++ map g l) (sym (onward_some (tokens_within n) (step_at touching bytes) next rest h))
+
+-- what the code's answer says of the step
+pub no_step : {A B : Type 0} (f : A → B) (o : Option A) (found : Option B) → option_map f o ≡ found → o ≡ None → found ≡ None
+no_step f None found h e = sym h
+no_step f (Some x) found h e = absurd cc
+
+pub some_step : {A B : Type 0} (f : A → B) (o : Option A) (x : A) (found : Option B) → option_map f o ≡ found → o ≡ Some x → found ≡ Some (f x)
+some_step f None x found h e = absurd cc
+some_step f (Some y) x found h e = sym h ∙ ap (λ v. Some (f v)) (some_is y x e)

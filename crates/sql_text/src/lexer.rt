@@ -77,6 +77,16 @@ fn keyword(bytes: &[u8]) -> Option<Fixed>
     None
 }
 
+/// The name that a text is, where it is one.
+fn name_of_text(text: Text) -> Option<Name>
+    ensures { result ≡ (if is_name text then Some text else None) }
+{
+    match Name::from_text(text) {
+        Ok(name) => Some(name),
+        Err(_) => None,
+    }
+}
+
 /// The name of these bytes, where they are one.
 fn name(alloc: Global, bytes: &[u8]) -> Result<Option<Name>, AllocError>
     ensures { IfOk result (λ n. n ≡ (if is_name bytes.now then Some bytes.now else None)) }
@@ -85,10 +95,7 @@ fn name(alloc: Global, bytes: &[u8]) -> Result<Option<Name>, AllocError>
         return Ok(None);
     }
     let text = Text::from_string(String::from_utf8_lossy(alloc, bytes)?);
-    let Ok(name) = Name::from_text(text) else {
-        unreachable!()
-    };
-    Ok(Some(name))
+    Ok(name_of_text(text))
 }
 
 /// The bytes at the front that may stand in a name, and the others.
@@ -401,6 +408,26 @@ fn is_bad(token: &Token) -> bool
     }
 }
 
+/// Whether this byte stands at the front.
+fn starts(byte: u8, bytes: &[u8]) -> bool
+    ensures { result ≡ starts_with_byte byte bytes.now }
+{
+    match bytes {
+        [first, ..] => *first == byte,
+        [] => false,
+    }
+}
+
+/// What stands behind the first byte.
+fn behind_first(bytes: &[u8]) -> &[u8]
+    ensures { result.now ≡ rest_of bytes.now }
+{
+    match bytes {
+        [_, rest @ ..] => rest,
+        [] => bytes,
+    }
+}
+
 /// A comment, behind its first two bytes.
 fn comment(bytes: &[u8]) -> (Option<Token>, &[u8])
     ensures { (result.0, result.1.now) ≡ skipped (comment_at bytes.now) }
@@ -435,8 +462,8 @@ fn lexeme(alloc: Global, bytes: &[u8]) -> Result<(Option<Token>, &[u8]), AllocEr
     if is_blank(first) {
         return Ok((None, rest));
     }
-    if let (b'/', [b'*', behind @ ..]) = (first, rest) {
-        return Ok(comment(behind));
+    if first == b'/' && starts(b'*', rest) {
+        return Ok(comment(behind_first(rest)));
     }
     if begins_name(first) {
         let (token, rest) = word(alloc, bytes)?;
