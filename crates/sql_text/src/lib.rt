@@ -6,7 +6,6 @@ mod fault;
 mod lexer;
 mod link;
 mod parsing;
-mod probe;
 mod reading;
 mod statement;
 mod token;
