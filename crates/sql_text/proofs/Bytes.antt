@@ -1,6 +1,6 @@
 -- Bytes and the numbers and texts that they stand for.
-use Rattle.std.proofs.Common.{◌≡◌, ℕ, zero, suc, ◌+◌, ◌-◌, ◌*◌, ◌^◌, ◌<◌, ◌≤◌, ◌⊎◌, inl, inr, min, map, List, [], ◌∷◌, ◌++◌, length, Bool, true, false, cond, Option, Some, None, refl, sym, ap, subst, ◌∙◌, append_assoc, arith}
-use Rattle.std.specs.Prelude.{◌==◌, ◌&&◌, ◌||◌, nat_lt, nat_le, option_map}
+use Rattle.std.proofs.Common.{◌≡◌, ℕ, suc, ◌+◌, ◌-◌, ◌*◌, ◌<◌, ◌≤◌, inl, inr, min, map, List, [], ◌∷◌, ◌++◌, length, Bool, true, false, cond, Option, Some, None, refl, sym, ap, subst, ◌∙◌, append_assoc, arith}
+use Rattle.std.specs.Prelude.{◌==◌, ◌&&◌, nat_lt, option_map}
 use Rattle.std.specs.List.{list_all}
 use Rattle.std.specs.Str.{IsAscii, IsUtf8}
 use Rattle.std.proofs.lemmas.List.{map-append}
@@ -10,7 +10,7 @@ use Rattle.std.proofs.lemmas.Bool.Decides.{nat_tests, leb_tells}
 use Rattle.sql_values.specs.Names.{is_name, begins_name, continues_name}
 use Rattle.sql_text.specs.Tokens.{value_after, digits_token, signed_token, Plain, Quote, Escape, text_from, onto, onto_some, escape_of, starts, rest_of, Placed, Step, step_at, onward, tokens_within}
 use Rattle.sql_text.specs.Lexing.{cap, onto_all, Piece, piece_at, escape_at, escaped_piece, text_by}
-use Rattle.sql_text.proofs.Fields.{and_true, or_true}
+use Rattle.sql_text.proofs.Fields.{and_true}
 
 -- NAMES
 

@@ -1,14 +1,14 @@
 -- Rules that begin in several ways, and those that need an opening.
-use Rattle.std.proofs.Common.{◌≡◌, ℕ, zero, suc, ◌+◌, ◌<◌, ◌≤◌, Bool, true, false, cond, List, [], ◌∷◌, ◌++◌, length, Option, Some, None, Result, Ok, Err, refl, sym, ap, subst, ◌∙◌, append_assoc, arith, inl, inr, ◌⊎◌}
+use Rattle.std.proofs.Common.{◌≡◌, ℕ, suc, ◌<◌, ◌≤◌, Bool, true, false, cond, List, [], ◌∷◌, ◌++◌, Result, Ok, Err, refl, sym, ap, subst, ◌∙◌, arith, inl, inr}
 use Rattle.std.specs.Prelude.{◌==◌, ◌||◌}
 use Rattle.std.proofs.lemmas.Bool.Decides.{nat_tests}
 use Rattle.sql_text.specs.declared.token.Fixed.{Fixed}
 use Rattle.sql_text.specs.declared.token.Token.{Token}
 use Rattle.sql_text.specs.declared.token.Token.TheVariants as tokens
 use Rattle.sql_text.specs.declared.fault.Stop.{Stop}
-use Rattle.sql_text.specs.Rules.{Rule, is, ◌⊳◌, ◌▷◌, ◌∣◌, opens, optional}
-use Rattle.sql_text.specs.Reading.{◌>>=◌, number_of, is_fixed, begins, behind, expect, open_at, optional_at, too_deep, syntax}
-use Rattle.sql_text.proofs.Fields.{Reads, Rules, kind_of, member, apart, member_left, member_right, none_left, apart_none, Clear, clear_left, clear_right, Took, Begun, Stuck, stop_at, Reach, Some_text, IsField, number_below, chosen, is_field, fixed_field, bind_ok, bind_err}
+use Rattle.sql_text.specs.Rules.{is, ◌⊳◌, ◌∣◌, optional}
+use Rattle.sql_text.specs.Reading.{◌>>=◌, number_of, begins, behind, expect, optional_at, syntax}
+use Rattle.sql_text.proofs.Fields.{Reads, Rules, kind_of, member, apart, member_left, member_right, apart_none, Clear, clear_left, clear_right, Begun, Reach, IsField, number_below, chosen, is_field, fixed_field}
 
 -- ---- the same reading, the same rule
 

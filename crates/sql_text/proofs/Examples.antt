@@ -1,7 +1,6 @@
 -- The definitions on examples.
-use Rattle.std.proofs.Common.{◌≡◌, ℕ, List, [], ◌∷◌, ◌++◌, Some, None, Ok, Err, ℤ, pos, negsuc, refl, codes, true, false, map, length}
-use Rattle.sql_text.specs.declared.token.Fixed.TheVariants.{And, As, Between, From, In, Insert, Into, Not, Null, Or, Select, Values, Where, Open, Close, Comma, Dot, Star, Semicolon, Equal, NotEqual, Less, AtMost, Greater, AtLeast}
-use Rattle.sql_text.specs.declared.token.Token.{Token}
+use Rattle.std.proofs.Common.{◌≡◌, ℕ, List, [], ◌∷◌, Some, None, Ok, Err, pos, negsuc, refl, codes, true}
+use Rattle.sql_text.specs.declared.token.Fixed.TheVariants.{From, Select, Comma, Dot, NotEqual, Less, AtMost}
 use Rattle.sql_text.specs.declared.token.Token.TheVariants as tokens
 use Rattle.sql_values.specs.declared.literal.Literal.TheVariants as literals
 use Rattle.sql_values.specs.declared.tree.ColumnName.{ColumnName}
@@ -11,8 +10,8 @@ use Rattle.sql_values.specs.declared.tree.Cond.{Cond}
 use Rattle.sql_values.specs.declared.tree.Cond.TheVariants as conds
 use Rattle.sql_text.specs.declared.statement.Statement.TheVariants as statements
 use Rattle.sql_text.specs.declared.statement.SelectItems.TheVariants as items
-use Rattle.sql_text.specs.Tokens.{placed_tokens, tokens_of, tokens_within, keyword_of}
-use Rattle.sql_text.specs.Reading.{statement_at, body_at, insert_at, expect, optional_at, table_at, column_list_at, literal_list_at, open_at, literal_at, name_at, select_at, select_items_at, item_at, column_at, alias_at, tab_at, where_at, cond_at, neg_at, comparison_at, behind_column_at, compared_at, operand_at, behind_not_at, listed_at, ranged_at}
+use Rattle.sql_text.specs.Tokens.{placed_tokens, tokens_of}
+use Rattle.sql_text.specs.Reading.{statement_at, body_at, insert_at, expect, optional_at, table_at, column_list_at, literal_list_at, open_at, literal_at, name_at, select_at, select_items_at, item_at, column_at, alias_at, tab_at, where_at, cond_at, neg_at, comparison_at, behind_column_at, compared_at, operand_at, behind_not_at, ranged_at}
 
 words : placed_tokens (codes "Select a_1, `b`.c FROM spider.t") ≡
     ((tokens.Fixed Select, 31) ∷ (tokens.Bare (codes "a_1"), 24) ∷ (tokens.Fixed Comma, 21) ∷ (tokens.Quoted (codes "b"), 19) ∷ (tokens.Fixed Dot, 16) ∷ (tokens.Bare (codes "c"), 15)

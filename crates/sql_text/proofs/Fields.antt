@@ -1,15 +1,15 @@
 -- Reading from left to right reads what a rule spells, and stops at the first token that no text of the rule has there.
-use Rattle.std.proofs.Common.{◌≡◌, ℕ, zero, suc, ◌+◌, ◌<◌, ◌≤◌, Bool, true, false, cond, List, [], ◌∷◌, ◌++◌, length, Option, Some, None, Result, Ok, Err, refl, sym, ap, subst, ◌∙◌, append_assoc, append-nil, arith, inl, inr, ◌⊎◌}
+use Rattle.std.proofs.Common.{◌≡◌, ℕ, suc, ◌<◌, ◌≤◌, Bool, true, false, cond, List, [], ◌∷◌, ◌++◌, length, Option, Some, None, Result, Ok, Err, refl, sym, ap, subst, ◌∙◌, append_assoc, arith, inl, inr, ◌⊎◌}
 use Rattle.std.proofs.lemmas.Bool.Decides.{nat_tests}
 use Rattle.std.specs.Prelude.{◌==◌, ◌&&◌, ◌||◌, not, if◌then◌else◌}
 use Rattle.sql_text.specs.declared.token.Fixed.{Fixed}
 use Rattle.sql_text.specs.declared.token.Token.{Token}
 use Rattle.sql_text.specs.declared.token.Token.TheVariants as tokens
 use Rattle.sql_text.specs.declared.fault.Stop.{Stop}
-use Rattle.sql_text.specs.Rules.{Rule, is, one, ◌⊳◌, ◌▷◌, ◌∣◌, Sequence}
+use Rattle.sql_text.specs.Rules.{Rule, is, one, ◌⊳◌, ◌▷◌}
 use Rattle.sql_text.specs.declared.token.Fixed.TheVariants.{And, As, Between, From, In, Insert, Into, Not, Null, Or, Select, Values, Where, Open, Close, Comma, Dot, Star, Semicolon, Equal, NotEqual, Less, AtMost, Greater, AtLeast}
 use Rattle.sql_text.specs.Places.{is_opening}
-use Rattle.sql_text.specs.Reading.{◌>>=◌, number_of, syntax, too_deep, value_before, one_at, expect, is_fixed}
+use Rattle.sql_text.specs.Reading.{◌>>=◌, number_of, syntax, value_before, one_at, expect, is_fixed}
 
 abbrev pub Reads : Type 0 → Type 0
 Reads X = List Token → Result (X × List Token) Stop
@@ -544,7 +544,7 @@ then_field {X} {Y} A a B b depth empty_a empty_b first_a further_a first_b furth
   again = λ deeper y front rest h clear.
       let q = h.1 in
       let first_near = fa.again deeper h.0 q.front (q.rest ++ rest) q.first
-          (then_clear (B h.0) depth (b h.0) empty_b first_b further_b further_a (fb h.0) away deeper y q.rest rest q.second (clear_right further_b (cond empty_b further_a []) rest clear)) in
+      (then_clear (B h.0) depth (b h.0) empty_b first_b further_b further_a (fb h.0) away deeper y q.rest rest q.second (clear_right further_b (cond empty_b further_a []) rest clear)) in
       let second_near = (fb h.0).again deeper y q.rest rest q.second (clear_left further_b (cond empty_b further_a []) rest clear) in
       let regrouped : front ++ rest ≡ q.front ++ (q.rest ++ rest) = ap (λ (l : List Token). l ++ rest) q.whole ∙ append_assoc q.front q.rest rest in
       subst (λ (l : List Token). Reach depth deeper y rest (a l >>= λ p. b p.0 p.1)) (sym regrouped)

@@ -1,18 +1,17 @@
 -- Rules that open something, and rules of several parts.
-use Rattle.std.proofs.Common.{◌≡◌, ℕ, zero, suc, ◌+◌, ◌<◌, ◌≤◌, Bool, true, false, cond, List, [], ◌∷◌, ◌++◌, length, Option, Some, None, Result, Ok, Err, refl, sym, ap, subst, ◌∙◌, append_assoc, append-nil, length-append, arith, inl, inr, ◌⊎◌}
+use Rattle.std.proofs.Common.{◌≡◌, ℕ, zero, suc, ◌+◌, ◌<◌, ◌≤◌, Bool, true, false, cond, List, [], ◌∷◌, ◌++◌, length, Result, Ok, Err, refl, sym, ap, subst, ◌∙◌, append-nil, length-append, arith, inl, inr}
 use Rattle.std.proofs.lemmas.List.{append_cancel_left, append_cancel_right}
-use Rattle.std.specs.Prelude.{◌==◌, ◌&&◌, ◌||◌}
-use Rattle.std.proofs.lemmas.Bool.Decides.{nat_tests}
+use Rattle.std.specs.Prelude.{◌==◌, ◌&&◌}
 use Rattle.sql_text.specs.declared.token.Fixed.{Fixed}
 use Rattle.sql_text.specs.declared.token.Fixed.TheVariants.{Open, Close}
 use Rattle.sql_text.specs.declared.token.Token.{Token}
 use Rattle.sql_text.specs.declared.token.Token.TheVariants as tokens
 use Rattle.sql_text.specs.declared.fault.Stop.{Stop}
-use Rattle.sql_text.specs.Rules.{Rule, is, ◌⊳◌, ◌▷◌, ◌∣◌, opens, further, series, at_most_further, parenthesized}
+use Rattle.sql_text.specs.Rules.{Rule, is, ◌⊳◌, ◌▷◌, opens, further, series, at_most_further, parenthesized}
 use Rattle.sql_text.specs.Places.{is_opening}
-use Rattle.sql_text.specs.Reading.{◌>>=◌, number_of, is_fixed, begins, behind, expect, open_at, further_at, series_at, parenthesized_at, with_front, too_deep, syntax}
-use Rattle.sql_text.proofs.Fields.{Reads, Rules, kind_of, member, apart, self_member, self_equal, or_false, Clear, clear_left, clear_right, none_left, none_right, both_false, Took, Begun, Stuck, stop_at, Near, Reach, Some_text, IsField, is_fixed_is, expected, chosen, is_field, fixed_field, then_field, bind_ok, bind_err}
-use Rattle.sql_text.proofs.Choices.{same_reader, same_rule, fixed_or}
+use Rattle.sql_text.specs.Reading.{◌>>=◌, number_of, is_fixed, begins, expect, open_at, further_at, series_at, parenthesized_at, with_front, too_deep, syntax}
+use Rattle.sql_text.proofs.Fields.{Reads, Rules, kind_of, member, apart, self_member, self_equal, or_false, Clear, clear_left, clear_right, both_false, Begun, Stuck, stop_at, Near, Reach, Some_text, IsField, is_fixed_is, is_field, fixed_field, then_field}
+use Rattle.sql_text.proofs.Choices.{same_reader, fixed_or}
 
 -- ---- openings
 
@@ -137,7 +136,7 @@ pub parenthesized_field : {X : Type 0} (A : Rule X) (depth : ℕ) (read : Reads 
 parenthesized_field {X} A depth read empty first further field away =
     opens_field Open (A ▷ λ x. Close ⊳ is x) depth (λ inside. read inside >>= λ x. expect Close x.1 >>= λ rest. Ok (x.0, rest)) (empty && false) (first ++ cond empty (number_of Close ∷ []) []) [] refl
     (λ n. then_field (λ _. A) read (λ (x : X) _. Close ⊳ is x) (λ (x : X) ts. expect Close ts >>= λ rest. Ok (x, rest)) n empty false first further (number_of Close ∷ []) [] (field n)
-        (λ x. fixed_field Close (λ _. is x) n (λ rest. Ok (x, rest)) true [] [] (is_field x n)) away)
+    (λ x. fixed_field Close (λ _. is x) n (λ rest. Ok (x, rest)) true [] [] (is_field x n)) away)
 
 -- ---- wider kinds
 
@@ -191,11 +190,11 @@ few_field {X} (suc count) f A a depth first_a further_a field away =
     wider (λ n. at_most_further (suc count) f (A n)) depth (further_at (suc count) f a) true (number_of f ∷ []) (((([] ++ (number_of f ∷ further_a)) ++ further_a) ++ []) ++ (number_of f ∷ [])) (number_of f ∷ further_a)
     (few_clear (number_of f) further_a)
     (fixed_or f (λ n. A n ▷ λ x. at_most_further count f (A n) ▷ λ xs. is (x ∷ xs)) (λ ts. a ts >>= λ x. with_front (x.0 ∷ []) (further_at count f a x.1)) (λ _. is []) (λ ts. Ok ([], ts)) depth false true (first_a ++ []) (([] ++ (number_of f ∷ further_a)) ++ further_a) [] []
-        (then_field A a (λ (x : X) n. at_most_further count f (A n) ▷ λ xs. is (x ∷ xs)) (λ x ts. with_front (x ∷ []) (further_at count f a ts)) depth false true first_a further_a (number_of f ∷ []) ([] ++ (number_of f ∷ further_a)) field
-            (λ x. then_field (λ n. at_most_further count f (A n)) (further_at count f a) (λ xs _. is (x ∷ xs)) (λ xs ts. Ok (x ∷ xs, ts)) depth true true (number_of f ∷ []) (number_of f ∷ further_a) [] []
-                (few_field count f A a depth first_a further_a field away) (λ xs. is_field (x ∷ xs) depth) refl)
-            away)
-        (is_field [] depth) refl)
+    (then_field A a (λ (x : X) n. at_most_further count f (A n) ▷ λ xs. is (x ∷ xs)) (λ x ts. with_front (x ∷ []) (further_at count f a ts)) depth false true first_a further_a (number_of f ∷ []) ([] ++ (number_of f ∷ further_a)) field
+    (λ x. then_field (λ n. at_most_further count f (A n)) (further_at count f a) (λ xs _. is (x ∷ xs)) (λ xs ts. Ok (x ∷ xs, ts)) depth true true (number_of f ∷ []) (number_of f ∷ further_a) [] []
+    (few_field count f A a depth first_a further_a field away) (λ xs. is_field (x ∷ xs) depth) refl)
+    away)
+    (is_field [] depth) refl)
 
 -- ---- any number of further parts
 
@@ -220,13 +219,20 @@ few_from (suc count) f A [] ts l h = inr (refl, h)
 few_from zero f A (x ∷ xs) ts l h = absurd (omega arith)
 few_from {X} (suc count) f A (x ∷ xs) ts l h =
     let q = h.2 in
-    inl (h.0, h.1, (x, record {
-      front = q.front;
-      rest = q.rest;
-      whole = q.whole;
-      first = q.first;
-      second = (xs, record { front = q.rest; rest = []; whole = sym (append-nil q.rest); first = few_from count f A xs q.rest (omega arith) q.second; second = (refl, refl) });
-    }))
+    inl (
+      h.0,
+      h.1,
+      (
+        x,
+        record {
+          front = q.front;
+          rest = q.rest;
+          whole = q.whole;
+          first = q.first;
+          second = (xs, record { front = q.rest; rest = []; whole = sym (append-nil q.rest); first = few_from count f A xs q.rest (omega arith) q.second; second = (refl, refl) });
+        },
+      ),
+    )
 
 -- reading parts takes tokens away
 abbrev pub Shortens : {X : Type 0} → Reads X → Type 0
@@ -323,5 +329,5 @@ pub series_field : {X : Type 0} (f : Fixed) (A : Rules X) (a : Reads X) (depth :
 series_field {X} f A a depth first_a further_a field away =
     then_field A a (λ (x : X) n. further f (A n) ▷ λ xs. is (x ∷ xs)) (λ x ts. with_front (x ∷ []) (further_at (length ts) f a ts)) depth false true first_a further_a (number_of f ∷ []) ([] ++ (number_of f ∷ further_a)) field
     (λ x. then_field (λ n. further f (A n)) (λ ts. further_at (length ts) f a ts) (λ xs _. is (x ∷ xs)) (λ xs ts. Ok (x ∷ xs, ts)) depth true true (number_of f ∷ []) (number_of f ∷ further_a) [] []
-        (further_field f A a depth first_a further_a field away) (λ xs. is_field (x ∷ xs) depth) refl)
+    (further_field f A a depth first_a further_a field away) (λ xs. is_field (x ∷ xs) depth) refl)
     away

@@ -6,16 +6,14 @@ use Rattle.std.specs.Str.Lossy.{utf8_valid_len}
 use Rattle.std.proofs.lemmas.Str.{IsUtf8-from_is_utf8, is_utf8-from_IsUtf8}
 use Rattle.std.proofs.lemmas.Bool.Decides.{nat_tests}
 use Rattle.sql_text.specs.declared.statement.Statement.{Statement}
-use Rattle.sql_text.specs.declared.token.Token.{Token}
 use Rattle.sql_text.specs.declared.fault.Stop.{Stop}
 use Rattle.sql_text.specs.declared.fault.ParseFault.{ParseFault}
 use Rattle.sql_text.specs.declared.fault.ParseFault.TheVariants.{Syntax, Deep, NoMemory}
 use Rattle.sql_text.specs.Tokens.{tokens_of}
-use Rattle.sql_text.specs.Grammar.{IsStatement, most_openings, statement}
+use Rattle.sql_text.specs.Grammar.{IsStatement, most_openings}
 use Rattle.sql_text.specs.Reading.{statement_at}
 use Rattle.sql_text.specs.Places.{IsFirstBad}
-use Rattle.sql_text.specs.Parsing.{place_of, wrong_byte, token_fault, first_fault, with_bytes, parsed, IsParsed, IsBadToken, IsBehind, IsBadByte, IsRefused}
-use Rattle.sql_text.proofs.Fields.{chosen}
+use Rattle.sql_text.specs.Parsing.{place_of, wrong_byte, token_fault, first_fault, with_bytes, parsed, IsParsed, IsBehind, IsRefused}
 use Rattle.sql_text.proofs.Statements.{read_found, read_again, read_bad}
 
 -- ---- wrong bytes

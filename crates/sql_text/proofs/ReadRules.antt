@@ -1,32 +1,28 @@
 -- Each reading function reads its rule.
-use Rattle.std.proofs.Common.{◌≡◌, ℕ, zero, suc, ◌+◌, ◌<◌, ◌≤◌, Bool, true, false, cond, List, [], ◌∷◌, ◌++◌, length, Option, Some, None, Result, Ok, Err, refl, sym, ap, subst, ◌∙◌, arith, inl, inr, ◌⊎◌, pos}
-use Rattle.std.specs.Prelude.{◌&&◌, ◌||◌, ◌==◌, is_some}
+use Rattle.std.proofs.Common.{◌≡◌, ℕ, zero, suc, Bool, true, false, cond, List, [], ◌∷◌, ◌++◌, Option, Some, None, Result, Ok, Err, refl, sym, ap, subst, ◌∙◌, arith, inl, inr}
+use Rattle.std.specs.Prelude.{◌&&◌, ◌==◌, is_some}
 use Rattle.std.proofs.lemmas.Bool.Decides.{nat_tests}
-use Rattle.sql_values.specs.declared.literal.Literal.{Literal}
 use Rattle.sql_values.specs.declared.literal.Literal.TheVariants as literals
 use Rattle.sql_values.specs.declared.tree.ColumnName.{ColumnName}
-use Rattle.sql_values.specs.declared.tree.Comparison.{Comparison}
 use Rattle.sql_values.specs.declared.tree.Comparison.TheVariants as comparisons
 use Rattle.sql_values.specs.declared.tree.Operand.{Operand}
 use Rattle.sql_values.specs.declared.tree.Operand.TheVariants as operands
 use Rattle.sql_values.specs.declared.tree.Cond.{Cond}
 use Rattle.sql_values.specs.declared.tree.Cond.TheVariants as conds
-use Rattle.sql_text.specs.declared.statement.Statement.{Statement}
 use Rattle.sql_text.specs.declared.statement.Statement.TheVariants as statements
 use Rattle.sql_text.specs.declared.statement.SelectItems.{SelectItems}
 use Rattle.sql_text.specs.declared.statement.SelectItems.TheVariants as items
 use Rattle.sql_text.specs.declared.statement.Item.{Item}
-use Rattle.sql_text.specs.declared.statement.Tab.{Tab}
 use Rattle.sql_text.specs.declared.token.Fixed.{Fixed}
 use Rattle.sql_text.specs.declared.token.Fixed.TheVariants.{And, As, Between, From, In, Insert, Into, Not, Null, Or, Select, Values, Where, Open, Close, Comma, Dot, Star, Semicolon, Equal, NotEqual, Less, AtMost, Greater, AtLeast}
 use Rattle.sql_text.specs.declared.token.Token.{Token}
 use Rattle.sql_text.specs.declared.token.Token.TheVariants as tokens
 use Rattle.sql_text.specs.declared.fault.Stop.{Stop}
-use Rattle.sql_text.specs.Rules.{Rule, is, one, ◌⊳◌, ◌▷◌, ◌∣◌, opens, optional, further, series, at_most_further, parenthesized}
-use Rattle.sql_text.specs.Grammar.{name_of, literal_of, comparison_of, is_spider, head_of, name, literal, behind_head, table, column, alias, operand, literal_list, compared, listed, ranged, behind_column, comparison, joined, conj_over, cond_over, neg}
+use Rattle.sql_text.specs.Rules.{Rule, is, one, ◌⊳◌, ◌▷◌, ◌∣◌, opens, series, at_most_further, parenthesized}
+use Rattle.sql_text.specs.Grammar.{name_of, literal_of, comparison_of, head_of, name, literal, behind_head, table, column, alias, operand, literal_list, compared, listed, ranged, behind_column, comparison, joined, conj_over, cond_over, neg}
 use Rattle.sql_text.specs.Grammar.{cond as cond_rule, tuple, column_list, insert, item, select_items, tab, where_cond, select, statement}
-use Rattle.sql_text.specs.Reading.{◌>>=◌, number_of, stands, begins, behind, expect, open_at, too_deep, syntax, one_at, name_at, literal_at, behind_head_at, table_at, column_at, some_name_at, alias_at, operand_at, literal_list_at, compared_at, listed_at, ranged_at, behind_not_at, behind_column_at, comparison_at, conj_by, cond_by, closed_by, neg_at, cond_at, column_list_at, insert_at, item_at, select_items_at, tab_at, where_at, select_at, body_at, ended, statement_at, optional_at, series_at, parenthesized_at, further_at, with_front}
-use Rattle.sql_text.proofs.Fields.{Reads, Rules, kind_of, member, apart, Clear, Known, Some_text, IsField, or_false, or_true, and_true, both_false, is_field, one_field, fixed_field, then_field}
+use Rattle.sql_text.specs.Reading.{◌>>=◌, number_of, stands, begins, behind, expect, open_at, too_deep, syntax, one_at, name_at, literal_at, behind_head_at, table_at, column_at, some_name_at, alias_at, operand_at, literal_list_at, compared_at, listed_at, ranged_at, behind_not_at, behind_column_at, comparison_at, conj_by, cond_by, closed_by, neg_at, cond_at, column_list_at, insert_at, item_at, select_items_at, tab_at, where_at, select_at, body_at, optional_at, series_at, parenthesized_at, further_at, with_front}
+use Rattle.sql_text.proofs.Fields.{Reads, Rules, kind_of, member, apart, Clear, Some_text, IsField, or_true, and_true, both_false, is_field, one_field, fixed_field, then_field}
 use Rattle.sql_text.proofs.Choices.{Tells, begins_tells, same_reader, same_rule, either_field, fixed_or, optional_field, looked}
 use Rattle.sql_text.proofs.Nested.{zero_field, suc_field, parenthesized_field, few_field, series_field}
 
@@ -262,7 +258,7 @@ column_field : (depth : ℕ) → IsField (λ _. column) depth column_at false (1
 unfolding column_at
 column_field depth = known_as (100 ∷ []) (16 ∷ []) refl refl
     (both (name_field depth) (λ n. fixed_or Dot (λ _. name ▷ λ m. is (qualified n m)) (λ ts. name_at ts >>= λ m. Ok (qualified n m.0, m.1)) (λ _. is (bare n)) (λ ts. Ok (bare n, ts)) depth false true (100 ∷ []) [] [] []
-        (both (name_field depth) (λ m. is_field (qualified n m) depth) refl) (is_field (bare n) depth) refl) refl)
+    (both (name_field depth) (λ m. is_field (qualified n m) depth) refl) (is_field (bare n) depth) refl) refl)
 
 some_name_field : (depth : ℕ) → IsField (λ _. name ▷ λ n. is (Some n)) depth some_name_at false (100 ∷ []) []
 some_name_field depth = both (name_field depth) (λ n. is_field (Some n) depth) refl
@@ -271,10 +267,10 @@ alias_field : (depth : ℕ) → IsField (λ _. alias) depth alias_at true (1 ∷
 unfolding alias_at
 alias_field depth = known_as (1 ∷ 100 ∷ []) (1 ∷ 100 ∷ []) refl refl
     (fixed_or As (λ _. name ▷ λ n. is (Some n)) some_name_at (λ _. (name ▷ λ n. is (Some n)) ∣ is None) (λ ts. cond (stands name_of ts) (some_name_at ts) (Ok (None, ts))) depth false true (100 ∷ []) [] (100 ∷ []) (100 ∷ [])
-        (some_name_field depth)
-        (known_as (100 ∷ []) (100 ∷ []) refl refl
-            (either_field (λ _. name ▷ λ n. is (Some n)) some_name_at (λ _. is None) (λ ts. Ok (None, ts)) (stands name_of) depth true (100 ∷ []) [] [] [] (some_name_field depth) (is_field None depth) name_tells refl))
-        refl)
+    (some_name_field depth)
+    (known_as (100 ∷ []) (100 ∷ []) refl refl
+    (either_field (λ _. name ▷ λ n. is (Some n)) some_name_at (λ _. is None) (λ ts. Ok (None, ts)) (stands name_of) depth true (100 ∷ []) [] [] [] (some_name_field depth) (is_field None depth) name_tells refl))
+    refl)
 
 literal_list_field : (depth : ℕ) → IsField literal_list depth (literal_list_at depth) false (13 ∷ []) []
 unfolding literal_list_at
@@ -290,10 +286,10 @@ operand_field : (depth : ℕ) → IsField (λ _. operand) depth operand_at false
 unfolding operand_at
 operand_field depth = known_as operand_kinds (16 ∷ []) refl refl
     (either_field (λ _. literal ▷ λ l. is (operands.Literal l)) (λ ts. literal_at ts >>= λ l. Ok (operands.Literal l.0, l.1)) (λ _. column ▷ λ c. is (operands.Column c)) (λ ts. column_at ts >>= λ c. Ok (operands.Column c.0, c.1))
-        (stands literal_of) depth false literal_kinds [] (100 ∷ []) (16 ∷ [])
-        (both (literal_field depth) (λ l. is_field (operands.Literal l) depth) refl)
-        (both (column_field depth) (λ c. is_field (operands.Column c) depth) refl)
-        literal_tells refl)
+    (stands literal_of) depth false literal_kinds [] (100 ∷ []) (16 ∷ [])
+    (both (literal_field depth) (λ l. is_field (operands.Literal l) depth) refl)
+    (both (column_field depth) (λ c. is_field (operands.Column c) depth) refl)
+    literal_tells refl)
 
 compared_field : (left : Operand) (depth : ℕ) → IsField (λ _. compared left) depth (compared_at left) false comparison_kinds (16 ∷ [])
 unfolding compared_at
@@ -318,11 +314,11 @@ behind_column_field : (c : ColumnName) (depth : ℕ) → IsField (λ n. behind_c
 unfolding behind_column_at
 behind_column_field c depth = known_as (7 ∷ 4 ∷ 2 ∷ comparison_kinds) (16 ∷ []) refl refl
     (either_field (λ _. compared (operands.Column c)) (compared_at (operands.Column c)) (λ n. (Not ⊳ (listed n c true ∣ ranged c true)) ∣ listed n c false ∣ ranged c false)
-        (λ ts. cond (begins Not ts) (behind_not_at depth c true (behind ts)) (behind_not_at depth c false ts)) (stands comparison_of) depth false comparison_kinds (16 ∷ []) (7 ∷ 4 ∷ 2 ∷ []) []
-        (compared_field (operands.Column c) depth)
-        (fixed_or Not (λ n. listed n c true ∣ ranged c true) (behind_not_at depth c true) (λ n. listed n c false ∣ ranged c false) (behind_not_at depth c false) depth false false (4 ∷ 2 ∷ []) [] (4 ∷ 2 ∷ []) []
-            (behind_not_field c true depth) (behind_not_field c false depth) refl)
-        comparison_tells refl)
+    (λ ts. cond (begins Not ts) (behind_not_at depth c true (behind ts)) (behind_not_at depth c false ts)) (stands comparison_of) depth false comparison_kinds (16 ∷ []) (7 ∷ 4 ∷ 2 ∷ []) []
+    (compared_field (operands.Column c) depth)
+    (fixed_or Not (λ n. listed n c true ∣ ranged c true) (behind_not_at depth c true) (λ n. listed n c false ∣ ranged c false) (behind_not_at depth c false) depth false false (4 ∷ 2 ∷ []) [] (4 ∷ 2 ∷ []) []
+    (behind_not_field c true depth) (behind_not_field c false depth) refl)
+    comparison_tells refl)
 
 literal_compared : (depth : ℕ) → IsField (λ _. literal ▷ λ l. compared (operands.Literal l)) depth (λ ts. literal_at ts >>= λ l. compared_at (operands.Literal l.0) l.1) false literal_kinds (16 ∷ [])
 literal_compared depth = known_as literal_kinds (16 ∷ []) refl refl (both (literal_field depth) (λ l. compared_field (operands.Literal l) depth) refl)
@@ -331,10 +327,10 @@ pub comparison_field : (depth : ℕ) → IsField comparison depth (comparison_at
 unfolding comparison_at
 comparison_field depth = known_as operand_kinds (16 ∷ []) refl refl
     (either_field (λ _. literal ▷ λ l. compared (operands.Literal l)) (λ ts. literal_at ts >>= λ l. compared_at (operands.Literal l.0) l.1) (λ n. column ▷ λ c. behind_column n c) (λ ts. column_at ts >>= λ c. behind_column_at depth c.0 c.1)
-        (stands literal_of) depth false literal_kinds (16 ∷ []) (100 ∷ []) (16 ∷ [])
-        (literal_compared depth)
-        (known_as (100 ∷ []) (16 ∷ []) refl refl (both (column_field depth) (λ c. behind_column_field c depth) refl))
-        literal_tells refl)
+    (stands literal_of) depth false literal_kinds (16 ∷ []) (100 ∷ []) (16 ∷ [])
+    (literal_compared depth)
+    (known_as (100 ∷ []) (16 ∷ []) refl refl (both (column_field depth) (λ c. behind_column_field c depth) refl))
+    literal_tells refl)
 
 -- ---- conditions
 
@@ -416,11 +412,11 @@ any_field : (depth : ℕ) (not_at open_at_ : Reads Cond) → IsField (opens Not 
 any_field depth not_at open_at_ fn fo =
     same_rule any_neg neg depth (λ ts. cond (begins Not ts) (not_at ts) (cond (begins Open ts) (open_at_ ts) (comparison_at depth ts))) false neg_kinds (16 ∷ []) to_neg from_neg
     (known_as neg_kinds (16 ∷ []) refl refl
-        (either_field (opens Not negated) not_at (λ n. opens Open enclosed n ∣ comparison n) (λ ts. cond (begins Open ts) (open_at_ ts) (comparison_at depth ts)) (begins Not) depth false (7 ∷ []) (16 ∷ []) (13 ∷ operand_kinds) (16 ∷ [])
-            fn
-            (known_as (13 ∷ operand_kinds) (16 ∷ []) refl refl
-                (either_field (opens Open enclosed) open_at_ comparison (comparison_at depth) (begins Open) depth false (13 ∷ []) [] operand_kinds (16 ∷ []) fo (comparison_field depth) (begins_tells Open) refl))
-            (begins_tells Not) refl))
+    (either_field (opens Not negated) not_at (λ n. opens Open enclosed n ∣ comparison n) (λ ts. cond (begins Open ts) (open_at_ ts) (comparison_at depth ts)) (begins Not) depth false (7 ∷ []) (16 ∷ []) (13 ∷ operand_kinds) (16 ∷ [])
+    fn
+    (known_as (13 ∷ operand_kinds) (16 ∷ []) refl refl
+    (either_field (opens Open enclosed) open_at_ comparison (comparison_at depth) (begins Open) depth false (13 ∷ []) [] operand_kinds (16 ∷ []) fo (comparison_field depth) (begins_tells Open) refl))
+    (begins_tells Not) refl))
 
 -- an opening too many is told at once
 too_deep_at : {X : Type 0} (f : Fixed) (read : Reads X) (ts : List Token) (z : Result (X × List Token) Stop) → cond (begins f ts) (open_at f zero ts >>= read) z ≡ cond (begins f ts) (too_deep ts) z
@@ -448,14 +444,14 @@ neg_field : (depth : ℕ) → IsField neg depth (neg_at depth) false neg_kinds (
 neg_field zero =
     same_reader neg zero (λ ts. cond (begins Not ts) (open_at Not zero ts >>= negated_at zero) (cond (begins Open ts) (open_at Open zero ts >>= closed_by (neg_at zero)) (comparison_at zero ts))) (neg_at zero) false neg_kinds (16 ∷ [])
     (any_field zero (λ ts. open_at Not zero ts >>= negated_at zero) (λ ts. open_at Open zero ts >>= closed_by (neg_at zero))
-        (zero_field Not negated (negated_at zero) (16 ∷ []) refl some_negated) (zero_field Open enclosed (closed_by (neg_at zero)) [] refl some_enclosed))
+    (zero_field Not negated (negated_at zero) (16 ∷ []) refl some_negated) (zero_field Open enclosed (closed_by (neg_at zero)) [] refl some_enclosed))
     zero_neg
 neg_field (suc depth) =
     same_reader neg (suc depth)
     (λ ts. cond (begins Not ts) (open_at Not (suc depth) ts >>= negated_at depth) (cond (begins Open ts) (open_at Open (suc depth) ts >>= closed_by (neg_at depth)) (comparison_at (suc depth) ts))) (neg_at (suc depth)) false neg_kinds (16 ∷ [])
     (any_field (suc depth) (λ ts. open_at Not (suc depth) ts >>= negated_at depth) (λ ts. open_at Open (suc depth) ts >>= closed_by (neg_at depth))
-        (suc_field Not negated depth (negated_at depth) false neg_kinds (16 ∷ []) some_negated (negated_field depth (neg_field depth)))
-        (suc_field Open enclosed depth (closed_by (neg_at depth)) false neg_kinds [] some_enclosed (enclosed_field depth (neg_field depth))))
+    (suc_field Not negated depth (negated_at depth) false neg_kinds (16 ∷ []) some_negated (negated_field depth (neg_field depth)))
+    (suc_field Open enclosed depth (closed_by (neg_at depth)) false neg_kinds [] some_enclosed (enclosed_field depth (neg_field depth))))
     (suc_neg depth)
 
 pub cond_field : (depth : ℕ) → IsField cond_rule depth (cond_at depth) false neg_kinds (9 ∷ 0 ∷ 16 ∷ [])
@@ -471,8 +467,8 @@ column_list_field : (depth : ℕ) → IsField column_list depth (column_list_at 
 unfolding column_list_at
 column_list_field depth = known_as (13 ∷ []) (13 ∷ []) refl refl
     (either_field (λ n. parenthesized (series Comma name) n ▷ λ l. is (Some l)) (λ ts. parenthesized_at (series_at Comma name_at) depth ts >>= λ l. Ok (Some l.0, l.1)) (λ _. is None) (λ ts. Ok (None, ts)) (begins Open) depth true (13 ∷ []) [] [] []
-        (both (parenthesized_field (series Comma name) depth (series_at Comma name_at) false (100 ∷ []) (15 ∷ []) name_list_field refl) (λ l. is_field (Some l) depth) refl)
-        (is_field None depth) (begins_tells Open) refl)
+    (both (parenthesized_field (series Comma name) depth (series_at Comma name_at) false (100 ∷ []) (15 ∷ []) name_list_field refl) (λ l. is_field (Some l) depth) refl)
+    (is_field None depth) (begins_tells Open) refl)
 
 tuples_field : (depth : ℕ) → IsField (λ n. series Comma (tuple n)) depth (series_at Comma (literal_list_at depth)) false (13 ∷ []) (15 ∷ [])
 tuples_field depth = known_as (13 ∷ []) (15 ∷ []) refl refl (series_field Comma tuple (literal_list_at depth) depth (13 ∷ []) [] (literal_list_field depth) refl)
@@ -482,7 +478,7 @@ unfolding insert_at
 insert_field depth =
     behind_fixed Insert
     (both (optional_field Into depth) (λ _. both (table_field depth) (λ t. both (column_list_field depth) (λ c. behind_fixed Values
-        (both (tuples_field depth) (λ r. is_field (statements.Insert (record { table = t; columns = c; rows = r })) depth) refl)) refl) refl) refl)
+    (both (tuples_field depth) (λ r. is_field (statements.Insert (record { table = t; columns = c; rows = r })) depth) refl)) refl) refl) refl)
 
 item_field : (depth : ℕ) → IsField (λ _. item) depth item_at false (100 ∷ []) (1 ∷ 100 ∷ 16 ∷ [])
 unfolding item_at
@@ -516,17 +512,17 @@ some_items_field depth =
     same_reader (λ _. item ▷ λ i. at_most_further 899 Comma item ▷ λ l. is (items.Columns (i ∷ l))) depth (λ ts. item_at ts >>= columns_put)
     (λ ts. item_at ts >>= columns_read) false (100 ∷ []) (15 ∷ 1 ∷ 100 ∷ 16 ∷ [])
     (known_as (100 ∷ []) (15 ∷ 1 ∷ 100 ∷ 16 ∷ []) refl refl
-        (both (item_field depth) (λ i. both (few_field 899 Comma (λ _. item) item_at depth (100 ∷ []) (1 ∷ 100 ∷ 16 ∷ []) (item_field depth) refl) (λ l. is_field (items.Columns (i ∷ l)) depth) refl) refl))
+    (both (item_field depth) (λ i. both (few_field 899 Comma (λ _. item) item_at depth (100 ∷ []) (1 ∷ 100 ∷ 16 ∷ []) (item_field depth) refl) (λ l. is_field (items.Columns (i ∷ l)) depth) refl) refl))
     (λ ts. items_read (item_at ts))
 
 select_items_field : (depth : ℕ) → IsField (λ _. select_items) depth select_items_at false (17 ∷ 100 ∷ []) (15 ∷ 1 ∷ 100 ∷ 16 ∷ [])
 unfolding select_items_at
 select_items_field depth = known_as (17 ∷ 100 ∷ []) (15 ∷ 1 ∷ 100 ∷ 16 ∷ []) refl refl
     (fixed_or Star (λ _. is items.All) (λ ts. Ok (items.All, ts)) (λ _. item ▷ λ i. at_most_further 899 Comma item ▷ λ l. is (items.Columns (i ∷ l)))
-        (λ ts. item_at ts >>= columns_read) depth true false [] [] (100 ∷ []) (15 ∷ 1 ∷ 100 ∷ 16 ∷ [])
-        (is_field items.All depth)
-        (some_items_field depth)
-        refl)
+    (λ ts. item_at ts >>= columns_read) depth true false [] [] (100 ∷ []) (15 ∷ 1 ∷ 100 ∷ 16 ∷ [])
+    (is_field items.All depth)
+    (some_items_field depth)
+    refl)
 
 tab_field : (depth : ℕ) → IsField (λ _. tab) depth tab_at false (100 ∷ []) (1 ∷ 100 ∷ 16 ∷ [])
 unfolding tab_at
@@ -537,21 +533,21 @@ where_field : (depth : ℕ) → IsField where_cond depth (where_at depth) true (
 unfolding where_at
 where_field depth = known_as (12 ∷ []) (12 ∷ 9 ∷ 0 ∷ 16 ∷ []) refl refl
     (fixed_or Where (λ n. cond_rule n ▷ λ c. is (Some c)) (λ ts. cond_at depth ts >>= λ c. Ok (Some c.0, c.1)) (λ _. is None) (λ ts. Ok (None, ts)) depth false true neg_kinds (9 ∷ 0 ∷ 16 ∷ []) [] []
-        (known_as neg_kinds (9 ∷ 0 ∷ 16 ∷ []) refl refl (both (cond_field depth) (λ c. is_field (Some c) depth) refl))
-        (is_field None depth) refl)
+    (known_as neg_kinds (9 ∷ 0 ∷ 16 ∷ []) refl refl (both (cond_field depth) (λ c. is_field (Some c) depth) refl))
+    (is_field None depth) refl)
 
 select_field : (depth : ℕ) → IsField select depth (select_at depth) false (10 ∷ []) (12 ∷ 9 ∷ 0 ∷ 1 ∷ 100 ∷ 16 ∷ [])
 unfolding select_at
 select_field depth = known_as (10 ∷ []) (12 ∷ 9 ∷ 0 ∷ 1 ∷ 100 ∷ 16 ∷ []) refl refl
     (behind_fixed Select
-        (both (select_items_field depth) (λ i. behind_fixed From
-            (both (tab_field depth) (λ t. both (where_field depth) (λ c. is_field (statements.Select (record { items = i; tab = t; cond = c })) depth) refl) refl)) refl))
+    (both (select_items_field depth) (λ i. behind_fixed From
+    (both (tab_field depth) (λ t. both (where_field depth) (λ c. is_field (statements.Select (record { items = i; tab = t; cond = c })) depth) refl) refl)) refl))
 
 pub body_field : (depth : ℕ) → IsField (λ n. insert n ∣ select n) depth (body_at depth) false (5 ∷ 10 ∷ []) (15 ∷ 12 ∷ 9 ∷ 0 ∷ 1 ∷ 100 ∷ 16 ∷ [])
 unfolding body_at
 body_field depth = known_as (5 ∷ 10 ∷ []) (15 ∷ 12 ∷ 9 ∷ 0 ∷ 1 ∷ 100 ∷ 16 ∷ []) refl refl
     (either_field insert (insert_at depth) select (select_at depth) (begins Insert) depth false (5 ∷ []) (15 ∷ []) (10 ∷ []) (12 ∷ 9 ∷ 0 ∷ 1 ∷ 100 ∷ 16 ∷ [])
-        (insert_field depth) (select_field depth) (begins_tells Insert) refl)
+    (insert_field depth) (select_field depth) (begins_tells Insert) refl)
 
 -- a statement and its end
 pub whole_field : (depth : ℕ) → IsField statement depth (λ ts. body_at depth ts >>= λ s. optional_at Semicolon s.1 >>= λ e. Ok (s.0, e.1)) false (5 ∷ 10 ∷ []) (18 ∷ 15 ∷ 12 ∷ 9 ∷ 0 ∷ 1 ∷ 100 ∷ 16 ∷ [])

@@ -1,5 +1,5 @@
 -- Further parts, read one after the other.
-use Rattle.std.proofs.Common.{◌≡◌, ℕ, zero, suc, ◌+◌, ◌-◌, ◌<◌, List, [], ◌∷◌, ◌++◌, Bool, true, false, Result, Ok, Err, refl, sym, ap, subst, ◌∙◌, append_assoc, append-nil, arith}
+use Rattle.std.proofs.Common.{◌≡◌, ℕ, zero, suc, ◌+◌, ◌-◌, ◌<◌, List, [], ◌∷◌, ◌++◌, true, false, Result, Ok, Err, refl, sym, ap, ◌∙◌, append_assoc, append-nil, arith}
 use Rattle.sql_text.specs.declared.token.Fixed.{Fixed}
 use Rattle.sql_text.specs.declared.token.Token.{Token}
 use Rattle.sql_text.specs.declared.fault.Stop.{Stop}

@@ -1,13 +1,13 @@
 -- Reading all of a text's tokens.
-use Rattle.std.proofs.Common.{◌≡◌, ℕ, suc, ◌+◌, ◌<◌, ◌≤◌, Bool, true, false, List, [], ◌∷◌, ◌++◌, length, Result, Ok, Err, refl, sym, ap, subst, ◌∙◌, append_assoc, append-nil, arith, inl, inr, ◌⊎◌}
+use Rattle.std.proofs.Common.{◌≡◌, ℕ, suc, ◌<◌, Bool, false, List, [], ◌∷◌, ◌++◌, length, Result, Ok, Err, refl, sym, ap, subst, ◌∙◌, append_assoc, append-nil, arith, inl, inr}
 use Rattle.sql_text.specs.declared.statement.Statement.{Statement}
 use Rattle.sql_text.specs.declared.token.Fixed.TheVariants.{Semicolon}
 use Rattle.sql_text.specs.declared.token.Token.{Token}
 use Rattle.sql_text.specs.declared.fault.Stop.{Stop}
 use Rattle.sql_text.specs.Grammar.{statement}
-use Rattle.sql_text.specs.Reading.{◌>>=◌, syntax, body_at, optional_at, ended, statement_at}
-use Rattle.sql_text.specs.Places.{Begins, Allowed, IsFirstBad, is_opening}
-use Rattle.sql_text.proofs.Fields.{Reads, Near, Reach, Took, Begun, Stuck, IsField, stop_at, bind_ok, bind_err}
+use Rattle.sql_text.specs.Reading.{◌>>=◌, body_at, optional_at, ended, statement_at}
+use Rattle.sql_text.specs.Places.{Begins, Allowed, IsFirstBad}
+use Rattle.sql_text.proofs.Fields.{Reads, Near, Reach, Begun, stop_at, bind_ok, bind_err}
 use Rattle.sql_text.proofs.ReadRules.{whole_field}
 
 abbrev with_end : Statement → Bool × List Token → Result (Statement × List Token) Stop
@@ -105,10 +105,10 @@ behind_bad : (most : ℕ) (ts : List Token) (v : Statement) (b : Token) (old : L
 behind_bad most ts v b old e =
     let t = (whole_field most).took ts v (b ∷ old) e in
     let further : (new : List Token) (s : Statement) (depth : ℕ) → statement depth s (t.front ++ (b ∷ new)) → ⊥ = λ new s depth h.
-        let n = whole_near most depth s (t.front ++ (b ∷ new)) h in
-        let m : Near {Y = Statement × List Token} most depth (s, []) (Ok (v, b ∷ new)) = subst (Near {Y = Statement × List Token} most depth (s, [])) (t.looks b old new refl) n in
-        let f : b ∷ new ≡ [] = ap (λ (p : Statement × List Token). p.1) m in
-        cc in
+    let n = whole_near most depth s (t.front ++ (b ∷ new)) h in
+    let m : Near {Y = Statement × List Token} most depth (s, []) (Ok (v, b ∷ new)) = subst (Near {Y = Statement × List Token} most depth (s, [])) (t.looks b old new refl) n in
+    let f : b ∷ new ≡ [] = ap (λ (p : Statement × List Token). p.1) m in
+    cc in
     record {
       before = t.front;
       after = b ∷ old;

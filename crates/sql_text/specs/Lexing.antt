@@ -1,5 +1,5 @@
 -- How tokens are read, step by step.
-use Rattle.std.specs.Prelude.{◌≡◌, ℕ, ◌+◌, ◌-◌, ◌*◌, ◌^◌, ◌==◌, ◌++◌, min, List, [], ◌∷◌, Option, Some, None, if◌then◌else◌}
+use Rattle.std.specs.Prelude.{ℕ, ◌==◌, ◌++◌, List, [], ◌∷◌, Option, Some, None, if◌then◌else◌}
 use Rattle.sql_text.specs.Tokens.{starts, rest_of, escape_of, onto}
 
 -- with these bytes in front

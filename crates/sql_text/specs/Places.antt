@@ -4,7 +4,7 @@ use Rattle.sql_text.specs.declared.statement.Statement.{Statement}
 use Rattle.sql_text.specs.declared.token.Fixed.TheVariants.{Not, Open}
 use Rattle.sql_text.specs.declared.token.Token.{Token}
 use Rattle.sql_text.specs.declared.token.Token.TheVariants as tokens
-use Rattle.sql_text.specs.Grammar.{statement, most_openings}
+use Rattle.sql_text.specs.Grammar.{statement}
 
 -- a token that opens: a parenthesis of any use, or NOT
 abbrev pub is_opening : Token → Bool

@@ -19,7 +19,7 @@ use Rattle.sql_text.specs.declared.token.Token.TheVariants as tokens
 use Rattle.sql_text.specs.declared.fault.Stop.{Stop}
 use Rattle.sql_text.specs.declared.fault.ReadError.{ReadError}
 use Rattle.sql_text.specs.declared.fault.ReadError.TheVariants as errors
-use Rattle.sql_text.specs.Grammar.{name_of, literal_of, comparison_of, head_of, joined, most_openings}
+use Rattle.sql_text.specs.Grammar.{name_of, literal_of, comparison_of, head_of, joined}
 
 -- FAULTS AND STEPS
 

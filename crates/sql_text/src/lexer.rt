@@ -268,7 +268,11 @@ fn piece(quote: u8, bytes: &[u8]) -> Option<(Option<u8>, &[u8])>
 }
 
 /// The text up to the quote that closes it, and what stands behind that.
-fn quoted_text(alloc: Global, quote: u8, bytes: &[u8]) -> Result<Option<(Vec<u8>, &[u8])>, AllocError>
+fn quoted_text(
+    alloc: Global,
+    quote: u8,
+    bytes: &[u8],
+) -> Result<Option<(Vec<u8>, &[u8])>, AllocError>
     ensures { IfOk result (λ x. option_map (λ y. (y.0.items, y.1.now)) x ≡ text_from quote Plain bytes.now) }
 {
     let mut text = Vec::new(alloc);
@@ -478,7 +482,12 @@ fn lexeme(alloc: Global, bytes: &[u8]) -> Result<(Option<Token>, &[u8]), AllocEr
 }
 
 /// One step: adds the token at the front, if one stands there, and answers whether a word or digits stand directly before what is left, and that.
-fn step<'a>(alloc: Global, out: &mut Tokens, touching: bool, bytes: &'a [u8]) -> Result<Option<(bool, &'a [u8])>, AllocError>
+fn step<'a>(
+    alloc: Global,
+    out: &mut Tokens,
+    touching: bool,
+    bytes: &'a [u8],
+) -> Result<Option<(bool, &'a [u8])>, AllocError>
     ensures tokens { OnOk result (out.new.tokens.items ≡ out.old.tokens.items ++ map (λ (p : Placed). p.0) (step_at touching bytes.now).0) }
     ensures lefts { OnOk result (out.new.lefts.items ≡ out.old.lefts.items ++ map (λ (p : Placed). p.1) (step_at touching bytes.now).0) }
     ensures rest { IfOk result (λ x. option_map (λ y. (y.0, y.1.now)) x ≡ (step_at touching bytes.now).1) }
@@ -498,7 +507,11 @@ fn step<'a>(alloc: Global, out: &mut Tokens, touching: bool, bytes: &'a [u8]) ->
     };
     let last = is_bad(&token);
     out.push(token, left)?;
-    if last { Ok(None) } else { Ok(Some((touches, rest))) }
+    if last {
+        Ok(None)
+    } else {
+        Ok(Some((touches, rest)))
+    }
 }
 
 /// The tokens of a text, up to the first that is none.

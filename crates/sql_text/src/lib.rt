@@ -15,3 +15,6 @@ pub use link::{Cell, LinkAnswer, LinkRequest, Scan, ScanItems};
 pub use parsing::{MOST_OPENINGS, parse};
 pub use statement::{Insert, Item, ItemList, Names, Select, SelectItems, Statement, Tab, Tuples};
 pub use token::{Fixed, Token};
+
+#[cfg(test)]
+mod tests;

@@ -68,7 +68,9 @@ fn parse_text(alloc: Global, text: &[u8]) -> Result<Statement, ParseFault>
     match statement(alloc, MOST_OPENINGS, tokens.tokens.as_slice()) {
         Ok(statement) => match wrong {
             None => Ok(statement),
-            Some(wrong) => Err(ParseFault::Syntax { place: wrong as u64 }),
+            Some(wrong) => Err(ParseFault::Syntax {
+                place: wrong as u64,
+            }),
         },
         Err(ReadError::Memory) => Err(ParseFault::NoMemory),
         Err(ReadError::Stopped(stop)) => {

@@ -1,6 +1,5 @@
 use Rattle.std.proofs.Common.{◌≡◌, ◌++◌, take, drop}
 use Rattle.std.specs.Char.{is_ascii_digit}
-use Rattle.sql_values.specs.Names.{continues_name as may_continue}
 use Rattle.sql_text.specs.Tokens.{run}
 use Rattle.sql_text.proofs.lexer.digit_run.Given as goal
 

@@ -1,5 +1,4 @@
-use Rattle.std.proofs.Common.{◌≡◌, ◌+◌, ◌-◌, ◌++◌, ℕ, suc, Bool, List, map, length, Option, Some, None, ap, sym, ◌∙◌, arith}
-use Rattle.std.specs.Prelude.{option_map}
+use Rattle.std.proofs.Common.{◌≡◌, ◌+◌, ◌-◌, ◌++◌, ℕ, suc, map, length, Some, None, ap, sym, ◌∙◌, arith}
 use Rattle.sql_text.specs.Tokens.{Placed, step_at, tokens_within, placed_tokens, tokens_of}
 use Rattle.sql_text.specs.Parsing.{lefts_of}
 use Rattle.sql_text.proofs.Bytes.{last_step, more_steps, no_step, some_step}

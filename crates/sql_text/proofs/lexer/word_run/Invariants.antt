@@ -1,5 +1,4 @@
 use Rattle.std.proofs.Common.{◌≡◌, ◌++◌, take, drop}
-use Rattle.std.specs.Char.{is_ascii_digit}
 use Rattle.sql_values.specs.Names.{continues_name as may_continue}
 use Rattle.sql_text.specs.Tokens.{run}
 use Rattle.sql_text.proofs.lexer.word_run.Given as goal

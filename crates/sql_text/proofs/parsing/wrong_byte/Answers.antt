@@ -1,4 +1,4 @@
-use Rattle.std.proofs.Common.{◌≡◌, Some, ap, sym, ◌∙◌}
+use Rattle.std.proofs.Common.{Some, ap, sym, ◌∙◌}
 use Rattle.sql_text.proofs.Parses.{utf8_none, not_utf8_some}
 use Rattle.sql_text.proofs.parsing.wrong_byte.Goals as goal
 

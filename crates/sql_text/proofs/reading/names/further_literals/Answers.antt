@@ -1,4 +1,4 @@
-use Rattle.std.proofs.Common.{◌≡◌, ◌-◌, ◌∷◌, [], ◌++◌, true, false, arith, subst, ap, sym, ◌∙◌}
+use Rattle.std.proofs.Common.{◌≡◌, ◌-◌, true, false, arith}
 use Rattle.sql_text.specs.declared.token.Fixed.TheVariants as fixed
 use Rattle.sql_text.specs.Reading.{begins, literal_at}
 use Rattle.sql_text.proofs.Series.{stopped, pushed, failed}
