@@ -7,3 +7,4 @@ pub mod ReadRules
 pub mod Statements
 pub mod Bytes
 pub mod Parses
+pub mod Joined

@@ -5,3 +5,4 @@ pub mod Grammar
 pub mod Reading
 pub mod Places
 pub mod Parsing
+pub mod Printing

@@ -1,4 +1,5 @@
 use super::*;
+use list_types::Bytes;
 use std::test::*;
 
 // The calls below are made by functions that promise nothing: else each assertion's proof would look into its literals.
@@ -122,5 +123,45 @@ fn long_texts(rt: HostRuntime) -> Result<(), Fail> {
         repeated(&rt, b"INSERT t VALUES (1)", b",(1)", 100_000, b"")?,
         (0, 0)
     );
+    Ok(())
+}
+
+// The canonical text of a statement, or nothing where it is refused.
+fn canonical(rt: &HostRuntime, text: &[u8]) -> Result<Bytes, Fail> {
+    match parse(rt.alloc(), text) {
+        Ok(statement) => Ok(print(rt.alloc(), &statement)?),
+        Err(_) => Ok(Bytes::new(rt.alloc())),
+    }
+}
+
+fn prints_as(rt: &HostRuntime, text: &[u8], expected: &[u8]) -> Result<bool, Fail> {
+    Ok(canonical(rt, text)?.as_slice() == expected)
+}
+
+#[test]
+fn canonical_texts(rt: HostRuntime) -> Result<(), Fail> {
+    let cases: [(&[u8], &[u8]); 6] = [
+        (b"select * from spider.t;", b"SELECT * FROM `t`"),
+        (
+            b"SELECT a b,t.c FROM t AS u",
+            b"SELECT `a` AS `b`, `t`.`c` FROM `t` AS `u`",
+        ),
+        (
+            b"insert t(k,v) values(+1,\"a'\\\\\\n\"),(-2,null)",
+            b"INSERT INTO `t` (`k`, `v`) VALUES (1,'a''\\\\\\n'),(-2,NULL)",
+        ),
+        (
+            b"SELECT a FROM t WHERE ((a=1)) AND (a!=2 AND b<3) OR NOT (a<=2 OR b>=3)",
+            b"SELECT `a` FROM `t` WHERE `a` = 1 AND (`a` <> 2 AND `b` < 3) OR NOT (`a` <= 2 OR `b` >= 3)",
+        ),
+        (
+            b"SELECT a FROM t WHERE (a > 1 OR 'x' = b) AND NOT (a NOT IN (1, 2)) AND NOT NOT t.b NOT BETWEEN 1 AND 'y'",
+            b"SELECT `a` FROM `t` WHERE (`a` > 1 OR 'x' = `b`) AND NOT `a` NOT IN (1,2) AND NOT NOT `t`.`b` NOT BETWEEN 1 AND 'y'",
+        ),
+        (b"SELECT a", b""),
+    ];
+    for (text, expected) in cases {
+        assert!(rt; prints_as(&rt, text, expected)?, "{text:?}");
+    }
     Ok(())
 }
