@@ -1,6 +1,6 @@
 -- Each reading function reads its rule.
-use Rattle.std.proofs.Common.{◌≡◌, ℕ, zero, suc, Bool, true, false, cond, List, [], ◌∷◌, ◌++◌, Option, Some, None, Result, Ok, Err, refl, sym, ap, subst, ◌∙◌, arith, inl, inr}
-use Rattle.std.specs.Prelude.{◌&&◌, ◌==◌, is_some}
+use Rattle.std.proofs.Common.{◌≡◌, ℕ, zero, suc, Bool, true, false, cond, List, [], ◌∷◌, ◌++◌, Option, Some, None, Result, Ok, Err, refl, sym, ap, subst, ◌∙◌, append-nil, arith, inl, inr}
+use Rattle.std.specs.Prelude.{◌&&◌, ◌==◌, is_some, option_map, ◌⊎◌}
 use Rattle.std.proofs.lemmas.Bool.Decides.{nat_tests}
 use Rattle.sql_values.specs.declared.literal.Literal.TheVariants as literals
 use Rattle.sql_values.specs.declared.tree.ColumnName.{ColumnName}
@@ -18,10 +18,10 @@ use Rattle.sql_text.specs.declared.token.Fixed.TheVariants.{And, As, Between, Fr
 use Rattle.sql_text.specs.declared.token.Token.{Token}
 use Rattle.sql_text.specs.declared.token.Token.TheVariants as tokens
 use Rattle.sql_text.specs.declared.fault.Stop.{Stop}
-use Rattle.sql_text.specs.Rules.{Rule, is, one, ◌⊳◌, ◌▷◌, ◌∣◌, opens, series, at_most_further, parenthesized}
-use Rattle.sql_text.specs.Grammar.{name_of, literal_of, comparison_of, head_of, name, literal, behind_head, table, column, alias, operand, literal_list, compared, listed, ranged, behind_column, comparison, joined, conj_over, cond_over, neg}
+use Rattle.sql_text.specs.Rules.{Rule, is, one, ◌⊳◌, ◌▷◌, ◌∣◌, opens, series, at_most_further, parenthesized, optional}
+use Rattle.sql_text.specs.Grammar.{name_of, literal_of, comparison_of, name, literal, table, column, alias, operand, literal_list, comparison, joined, conj_over, cond_over, neg, is_spider, spider_of}
 use Rattle.sql_text.specs.Grammar.{cond as cond_rule, tuple, column_list, insert, item, select_items, tab, where_cond, select, statement}
-use Rattle.sql_text.specs.Reading.{◌>>=◌, number_of, stands, begins, behind, expect, open_at, too_deep, syntax, one_at, name_at, literal_at, behind_head_at, table_at, column_at, some_name_at, alias_at, operand_at, literal_list_at, compared_at, listed_at, ranged_at, behind_not_at, behind_column_at, comparison_at, conj_by, cond_by, closed_by, neg_at, cond_at, column_list_at, insert_at, item_at, select_items_at, tab_at, where_at, select_at, body_at, optional_at, series_at, parenthesized_at, further_at, with_front}
+use Rattle.sql_text.specs.Reading.{◌>>=◌, number_of, stands, begins, behind, expect, open_at, too_deep, syntax, one_at, name_at, literal_at, head_of, behind_head_at, table_at, column_at, some_name_at, alias_at, operand_at, literal_list_at, compared_at, listed_at, ranged_at, behind_not_at, behind_column_at, comparison_at, conj_by, cond_by, closed_by, neg_at, cond_at, column_list_at, insert_at, item_at, select_items_at, tab_at, where_at, select_at, body_at, optional_at, series_at, parenthesized_at, further_at, with_front}
 use Rattle.sql_text.proofs.Fields.{Reads, Rules, kind_of, member, apart, Clear, Some_text, IsField, or_true, and_true, both_false, is_field, one_field, fixed_field, then_field}
 use Rattle.sql_text.proofs.Choices.{Tells, begins_tells, same_reader, same_rule, either_field, fixed_or, optional_field, looked}
 use Rattle.sql_text.proofs.Nested.{zero_field, suc_field, parenthesized_field, few_field, series_field}
@@ -240,13 +240,77 @@ comparison_sign_field depth = one_field comparison_of comparison_kinds depth (re
 
 -- ---- names and literals
 
+-- what stands behind a name that may stand before a table's
+abbrev behind_head : Bool × List ℕ → Rule (List ℕ)
+behind_head (true, n) = (Dot ⊳ name) ∣ is n
+behind_head (false, n) = is n
+
 behind_head_field : (h : Bool × List ℕ) (depth : ℕ) → IsField (λ _. behind_head h) depth (behind_head_at h) true (16 ∷ []) (16 ∷ [])
 behind_head_field (true, n) depth = known_as (16 ∷ []) (16 ∷ []) refl refl (fixed_or Dot (λ _. name) name_at (λ _. is n) (λ ts. Ok (n, ts)) depth false true (100 ∷ []) [] [] [] (name_field depth) (is_field n depth) refl)
 behind_head_field (false, n) depth = known_as (16 ∷ []) (16 ∷ []) refl refl (is_field n depth)
 
+head_is : (t : Token) (h : Bool × List ℕ) → head_of t ≡ Some h → (is_spider t ≡ h.0) × (name_of t ≡ Some h.1)
+head_is (tokens.Bare n) h e = let s : (is_spider (tokens.Bare n), n) ≡ h = cc in (ap (λ (p : Bool × List ℕ). p.0) s, ap (λ (p : Bool × List ℕ). Some p.1) s)
+head_is (tokens.Quoted n) h e = let s : (false, n) ≡ h = cc in (ap (λ (p : Bool × List ℕ). p.0) s, ap (λ (p : Bool × List ℕ). Some p.1) s)
+head_is (tokens.Fixed f) h e = absurd cc
+head_is (tokens.Digits n) h e = absurd cc
+head_is (tokens.Signed n) h e = absurd cc
+head_is (tokens.Text t) h e = absurd cc
+head_is tokens.Bad h e = absurd cc
+
+spider_head_at : (t : Token) (b v : Bool) → is_spider t ≡ b → cond b (Some true) None ≡ Some v → is_spider t ≡ true
+spider_head_at t true v e h = e
+spider_head_at t false v e h = absurd cc
+
+spider_is : (t : Token) (v : Bool) → spider_of t ≡ Some v → is_spider t ≡ true
+spider_is t v h = spider_head_at t (is_spider t) v refl h
+
+spider_name : (t : Token) → is_spider t ≡ true → (n : List ℕ) × (head_of t ≡ Some (true, n))
+spider_name (tokens.Bare n) e = (n, ap (λ b. Some (b, n)) e)
+spider_name (tokens.Quoted n) e = absurd cc
+spider_name (tokens.Fixed f) e = absurd cc
+spider_name (tokens.Digits n) e = absurd cc
+spider_name (tokens.Signed n) e = absurd cc
+spider_name (tokens.Text t) e = absurd cc
+spider_name tokens.Bad e = absurd cc
+
+-- the rule of tables as it is read
+abbrev head_table : Rule (List ℕ)
+head_table = one head_of ▷ λ h. behind_head h
+
+-- a value and its tokens, with none behind them
+alone : {X : Type 0} (A : Rule X) (x : X) (ts front rest : List Token) → ts ≡ front ++ rest → rest ≡ [] → A x front → A x ts
+alone A x ts front rest whole none h = subst (A x) (sym (whole ∙ ap (λ (l : List Token). front ++ l) none ∙ append-nil front)) h
+
+to_table : (n : List ℕ) (ts : List Token) → head_table n ts → table n ts
+to_table n ts ((true, m), s) =
+    let q = head_is s.first.0 (true, m) s.first.2 in
+    let second : ((Dot ⊳ name) ∣ is m) n s.rest = s.second in
+    elim second [
+      | inl k ↦ inl (true, record { front = s.front; rest = s.rest; whole = s.whole; first = (s.first.0, s.first.1, (rw q.0 refl)); second = k })
+      | inr k ↦ inr (alone name n ts s.front s.rest s.whole k.1 (s.first.0, s.first.1, q.1 ∙ ap Some (sym k.0)))
+    ]
+to_table n ts ((false, m), s) =
+    let q = head_is s.first.0 (false, m) s.first.2 in
+    let k : is m n s.rest = s.second in
+    inr (alone name n ts s.front s.rest s.whole k.1 (s.first.0, s.first.1, q.1 ∙ ap Some (sym k.0)))
+
+behind_any : (b : Bool) (n : List ℕ) → behind_head (b, n) n []
+behind_any true n = inr (refl, refl)
+behind_any false n = (refl, refl)
+
+from_table : (n : List ℕ) (ts : List Token) → table n ts → head_table n ts
+from_table n ts (inl (v, s)) =
+    let h = spider_name s.first.0 (spider_is s.first.0 v s.first.2) in
+    ((true, h.0), record { front = s.front; rest = s.rest; whole = s.whole; first = (s.first.0, s.first.1, h.1); second = inl s.second })
+from_table n ts (inr k) =
+    ((is_spider k.0, n), record { front = k.0 ∷ []; rest = []; whole = k.1; first = (k.0, refl, ap (option_map (λ (m : List ℕ). (is_spider k.0, m))) k.2); second = behind_any (is_spider k.0) n })
+
 table_field : (depth : ℕ) → IsField (λ _. table) depth table_at false (100 ∷ []) (16 ∷ [])
 unfolding table_at
-table_field depth = known_as (100 ∷ []) (16 ∷ []) refl refl (both (head_field depth) (λ h. behind_head_field h depth) refl)
+table_field depth =
+    same_rule (λ _. head_table) (λ _. table) depth table_at false (100 ∷ []) (16 ∷ []) (λ _. to_table) (λ _. from_table)
+    (known_as (100 ∷ []) (16 ∷ []) refl refl (both (head_field depth) (λ h. behind_head_field h depth) refl))
 
 abbrev bare : List ℕ → ColumnName
 bare n = record { table = None; column = n }
@@ -254,11 +318,28 @@ bare n = record { table = None; column = n }
 abbrev qualified : List ℕ → List ℕ → ColumnName
 qualified n m = record { table = Some n; column = m }
 
+-- the rule of columns as it is read
+abbrev first_column : Rule ColumnName
+first_column = name ▷ λ n. (Dot ⊳ (name ▷ λ m. is (qualified n m))) ∣ is (bare n)
+
+to_column : (c : ColumnName) (ts : List Token) → first_column c ts → column c ts
+to_column c ts (n, s) =
+    elim s.second [
+      | inl k ↦ inl (n, record { front = s.front; rest = s.rest; whole = s.whole; first = s.first; second = k })
+      | inr k ↦ inr (n, record { front = s.front; rest = s.rest; whole = s.whole; first = s.first; second = k })
+    ]
+
+from_column : (c : ColumnName) (ts : List Token) → column c ts → first_column c ts
+from_column c ts (inl (n, s)) = (n, record { front = s.front; rest = s.rest; whole = s.whole; first = s.first; second = inl s.second })
+from_column c ts (inr (n, s)) = (n, record { front = s.front; rest = s.rest; whole = s.whole; first = s.first; second = inr s.second })
+
 column_field : (depth : ℕ) → IsField (λ _. column) depth column_at false (100 ∷ []) (16 ∷ [])
 unfolding column_at
-column_field depth = known_as (100 ∷ []) (16 ∷ []) refl refl
+column_field depth =
+    same_rule (λ _. first_column) (λ _. column) depth column_at false (100 ∷ []) (16 ∷ []) (λ _. to_column) (λ _. from_column)
+    (known_as (100 ∷ []) (16 ∷ []) refl refl
     (both (name_field depth) (λ n. fixed_or Dot (λ _. name ▷ λ m. is (qualified n m)) (λ ts. name_at ts >>= λ m. Ok (qualified n m.0, m.1)) (λ _. is (bare n)) (λ ts. Ok (bare n, ts)) depth false true (100 ∷ []) [] [] []
-    (both (name_field depth) (λ m. is_field (qualified n m) depth) refl) (is_field (bare n) depth) refl) refl)
+    (both (name_field depth) (λ m. is_field (qualified n m) depth) refl) (is_field (bare n) depth) refl) refl))
 
 some_name_field : (depth : ℕ) → IsField (λ _. name ▷ λ n. is (Some n)) depth some_name_at false (100 ∷ []) []
 some_name_field depth = both (name_field depth) (λ n. is_field (Some n) depth) refl
@@ -291,52 +372,137 @@ operand_field depth = known_as operand_kinds (16 ∷ []) refl refl
     (both (column_field depth) (λ c. is_field (operands.Column c) depth) refl)
     literal_tells refl)
 
-compared_field : (left : Operand) (depth : ℕ) → IsField (λ _. compared left) depth (compared_at left) false comparison_kinds (16 ∷ [])
+-- what stands behind the first operand of a test
+abbrev behind_operand : Operand → Rule Cond
+behind_operand left = one comparison_of ▷ λ c. operand ▷ λ right. is (conds.Compare left c right)
+
+abbrev in_list : ℕ → ColumnName → Bool → Rule Cond
+in_list depth c negated = In ⊳ (literal_list depth ▷ λ l. is (conds.In c negated l))
+
+abbrev in_range : ColumnName → Bool → Rule Cond
+in_range c negated = Between ⊳ (literal ▷ λ low. And ⊳ (literal ▷ λ high. is (conds.Between c negated low high)))
+
+abbrev behind_column : ℕ → ColumnName → Rule Cond
+behind_column depth c = behind_operand (operands.Column c) ∣ (Not ⊳ (in_list depth c true ∣ in_range c true)) ∣ in_list depth c false ∣ in_range c false
+
+-- the rule of tests as it is read
+abbrev operand_test : ℕ → Rule Cond
+operand_test depth = (literal ▷ λ l. behind_operand (operands.Literal l)) ∣ (column ▷ λ c. behind_column depth c)
+
+compared_field : (left : Operand) (depth : ℕ) → IsField (λ _. behind_operand left) depth (compared_at left) false comparison_kinds (16 ∷ [])
 unfolding compared_at
 compared_field left depth = known_as comparison_kinds (16 ∷ []) refl refl
     (both (comparison_sign_field depth) (λ c. both (operand_field depth) (λ right. is_field (conds.Compare left c right) depth) refl) refl)
 
-listed_field : (c : ColumnName) (negated : Bool) (depth : ℕ) → IsField (λ n. listed n c negated) depth (listed_at depth c negated) false (4 ∷ []) []
+listed_field : (c : ColumnName) (negated : Bool) (depth : ℕ) → IsField (λ n. in_list n c negated) depth (listed_at depth c negated) false (4 ∷ []) []
 unfolding listed_at
 listed_field c negated depth = behind_fixed In (both (literal_list_field depth) (λ l. is_field (conds.In c negated l) depth) refl)
 
-ranged_field : (c : ColumnName) (negated : Bool) (depth : ℕ) → IsField (λ _. ranged c negated) depth (ranged_at c negated) false (2 ∷ []) []
+ranged_field : (c : ColumnName) (negated : Bool) (depth : ℕ) → IsField (λ _. in_range c negated) depth (ranged_at c negated) false (2 ∷ []) []
 unfolding ranged_at
 ranged_field c negated depth = behind_fixed Between
     (both (literal_field depth) (λ low. behind_fixed And (both (literal_field depth) (λ high. is_field (conds.Between c negated low high) depth) refl)) refl)
 
-behind_not_field : (c : ColumnName) (negated : Bool) (depth : ℕ) → IsField (λ n. listed n c negated ∣ ranged c negated) depth (behind_not_at depth c negated) false (4 ∷ 2 ∷ []) []
+behind_not_field : (c : ColumnName) (negated : Bool) (depth : ℕ) → IsField (λ n. in_list n c negated ∣ in_range c negated) depth (behind_not_at depth c negated) false (4 ∷ 2 ∷ []) []
 unfolding behind_not_at
 behind_not_field c negated depth =
-    either_field (λ n. listed n c negated) (listed_at depth c negated) (λ _. ranged c negated) (ranged_at c negated) (begins In) depth false (4 ∷ []) [] (2 ∷ []) [] (listed_field c negated depth) (ranged_field c negated depth) (begins_tells In) refl
+    either_field (λ n. in_list n c negated) (listed_at depth c negated) (λ _. in_range c negated) (ranged_at c negated) (begins In) depth false (4 ∷ []) [] (2 ∷ []) [] (listed_field c negated depth) (ranged_field c negated depth) (begins_tells In) refl
 
 behind_column_field : (c : ColumnName) (depth : ℕ) → IsField (λ n. behind_column n c) depth (behind_column_at depth c) false (7 ∷ 4 ∷ 2 ∷ comparison_kinds) (16 ∷ [])
 unfolding behind_column_at
 behind_column_field c depth = known_as (7 ∷ 4 ∷ 2 ∷ comparison_kinds) (16 ∷ []) refl refl
-    (either_field (λ _. compared (operands.Column c)) (compared_at (operands.Column c)) (λ n. (Not ⊳ (listed n c true ∣ ranged c true)) ∣ listed n c false ∣ ranged c false)
+    (either_field (λ _. behind_operand (operands.Column c)) (compared_at (operands.Column c)) (λ n. (Not ⊳ (in_list n c true ∣ in_range c true)) ∣ in_list n c false ∣ in_range c false)
     (λ ts. cond (begins Not ts) (behind_not_at depth c true (behind ts)) (behind_not_at depth c false ts)) (stands comparison_of) depth false comparison_kinds (16 ∷ []) (7 ∷ 4 ∷ 2 ∷ []) []
     (compared_field (operands.Column c) depth)
-    (fixed_or Not (λ n. listed n c true ∣ ranged c true) (behind_not_at depth c true) (λ n. listed n c false ∣ ranged c false) (behind_not_at depth c false) depth false false (4 ∷ 2 ∷ []) [] (4 ∷ 2 ∷ []) []
+    (fixed_or Not (λ n. in_list n c true ∣ in_range c true) (behind_not_at depth c true) (λ n. in_list n c false ∣ in_range c false) (behind_not_at depth c false) depth false false (4 ∷ 2 ∷ []) [] (4 ∷ 2 ∷ []) []
     (behind_not_field c true depth) (behind_not_field c false depth) refl)
     comparison_tells refl)
 
-literal_compared : (depth : ℕ) → IsField (λ _. literal ▷ λ l. compared (operands.Literal l)) depth (λ ts. literal_at ts >>= λ l. compared_at (operands.Literal l.0) l.1) false literal_kinds (16 ∷ [])
+literal_compared : (depth : ℕ) → IsField (λ _. literal ▷ λ l. behind_operand (operands.Literal l)) depth (λ ts. literal_at ts >>= λ l. compared_at (operands.Literal l.0) l.1) false literal_kinds (16 ∷ [])
 literal_compared depth = known_as literal_kinds (16 ∷ []) refl refl (both (literal_field depth) (λ l. compared_field (operands.Literal l) depth) refl)
+
+-- the two ways to state the tests
+
+with_not : {X : Type 0} (A : Bool → Rule X) (x : X) (ts rest : List Token) → ts ≡ tokens.Fixed Not ∷ rest → A true x rest → (optional Not ▷ λ n. A n) x ts
+with_not A x ts rest e h = (true, record { front = tokens.Fixed Not ∷ []; rest = rest; whole = e; first = inl ([], refl, (refl, refl)); second = h })
+
+without_not : {X : Type 0} (A : Bool → Rule X) (x : X) (ts : List Token) → A false x ts → (optional Not ▷ λ n. A n) x ts
+without_not A x ts h = (false, record { front = []; rest = ts; whole = refl; first = inr (refl, refl); second = h })
+
+operand_alone : {X : Type 0} (A : Rule X) (f : X → Operand) (x : X) (ts : List Token) → A x ts → (A ▷ λ y. is (f y)) (f x) ts
+operand_alone A f x ts h = (x, record { front = ts; rest = []; whole = sym (append-nil ts); first = h; second = (refl, refl) })
+
+to_test : (depth : ℕ) (c : Cond) (ts : List Token) → operand_test depth c ts → comparison depth c ts
+to_test depth c ts (inl (l, s)) =
+    inl (operands.Literal l, record { front = s.front; rest = s.rest; whole = s.whole; first = inl (operand_alone literal operands.Literal l s.front s.first); second = s.second })
+to_test depth c ts (inr (k, s)) =
+    elim s.second [
+      | inl h ↦ inl (operands.Column k, record { front = s.front; rest = s.rest; whole = s.whole; first = inr (operand_alone column operands.Column k s.front s.first); second = h })
+      | inr h ↦ elim h [
+        | inl n ↦ elim n.2 [
+          | inl i ↦ inr (inl (k, record { front = s.front; rest = s.rest; whole = s.whole; first = s.first; second = with_not (λ b. in_list depth k b) c s.rest n.0 n.1 i }))
+          | inr i ↦ inr (inr (k, record { front = s.front; rest = s.rest; whole = s.whole; first = s.first; second = with_not (λ b. in_range k b) c s.rest n.0 n.1 i }))
+        ]
+        | inr p ↦ elim p [
+          | inl i ↦ inr (inl (k, record { front = s.front; rest = s.rest; whole = s.whole; first = s.first; second = without_not (λ b. in_list depth k b) c s.rest i }))
+          | inr i ↦ inr (inr (k, record { front = s.front; rest = s.rest; whole = s.whole; first = s.first; second = without_not (λ b. in_range k b) c s.rest i }))
+        ]
+      ]
+    ]
+
+-- NOT or none, and then that
+split_not : {X : Type 0} (A : Bool → Rule X) (x : X) (ts : List Token) → (optional Not ▷ λ n. A n) x ts → ((rest : List Token) × (ts ≡ tokens.Fixed Not ∷ rest) × A true x rest) ⊎ A false x ts
+split_not A x ts (n, s) =
+    elim s.first [
+      | inl k ↦
+          let whole : ts ≡ tokens.Fixed Not ∷ s.rest = s.whole ∙ ap (λ (l : List Token). l ++ s.rest) (k.1 ∙ ap (λ (l : List Token). tokens.Fixed Not ∷ l) k.2.1) in
+          inl (s.rest, whole, subst (λ b. A b x s.rest) k.2.0 s.second)
+      | inr k ↦
+          let whole : ts ≡ s.rest = s.whole ∙ ap (λ (l : List Token). l ++ s.rest) k.1 in
+          inr (subst (A false x) (sym whole) (subst (λ b. A b x s.rest) k.0 s.second))
+    ]
+
+-- the operand that this is
+operand_front : {X : Type 0} (A : Rule X) (f : X → Operand) (left : Operand) (ts : List Token) → (A ▷ λ y. is (f y)) left ts → (x : X) × (left ≡ f x) × A x ts
+operand_front A f left ts (x, s) = (x, s.second.0, alone A x ts s.front s.rest s.whole s.second.1 s.first)
+
+from_test : (depth : ℕ) (c : Cond) (ts : List Token) → comparison depth c ts → operand_test depth c ts
+from_test depth c ts (inl (left, s)) =
+    elim s.first [
+      | inl h ↦
+          let o = operand_front literal operands.Literal left s.front h in
+          inl (o.0, record { front = s.front; rest = s.rest; whole = s.whole; first = o.2; second = subst (λ v. behind_operand v c s.rest) o.1 s.second })
+      | inr h ↦
+          let o = operand_front column operands.Column left s.front h in
+          inr (o.0, record { front = s.front; rest = s.rest; whole = s.whole; first = o.2; second = inl (subst (λ v. behind_operand v c s.rest) o.1 s.second) })
+    ]
+from_test depth c ts (inr (inl (k, s))) =
+    elim (split_not (λ b. in_list depth k b) c s.rest s.second) [
+      | inl n ↦ inr (k, record { front = s.front; rest = s.rest; whole = s.whole; first = s.first; second = inr (inl (n.0, n.1, inl n.2)) })
+      | inr i ↦ inr (k, record { front = s.front; rest = s.rest; whole = s.whole; first = s.first; second = inr (inr (inl i)) })
+    ]
+from_test depth c ts (inr (inr (k, s))) =
+    elim (split_not (λ b. in_range k b) c s.rest s.second) [
+      | inl n ↦ inr (k, record { front = s.front; rest = s.rest; whole = s.whole; first = s.first; second = inr (inl (n.0, n.1, inr n.2)) })
+      | inr i ↦ inr (k, record { front = s.front; rest = s.rest; whole = s.whole; first = s.first; second = inr (inr (inr i)) })
+    ]
 
 pub comparison_field : (depth : ℕ) → IsField comparison depth (comparison_at depth) false operand_kinds (16 ∷ [])
 unfolding comparison_at
-comparison_field depth = known_as operand_kinds (16 ∷ []) refl refl
-    (either_field (λ _. literal ▷ λ l. compared (operands.Literal l)) (λ ts. literal_at ts >>= λ l. compared_at (operands.Literal l.0) l.1) (λ n. column ▷ λ c. behind_column n c) (λ ts. column_at ts >>= λ c. behind_column_at depth c.0 c.1)
+comparison_field depth =
+    same_rule operand_test comparison depth (comparison_at depth) false operand_kinds (16 ∷ []) to_test from_test
+    (known_as operand_kinds (16 ∷ []) refl refl
+    (either_field (λ _. literal ▷ λ l. behind_operand (operands.Literal l)) (λ ts. literal_at ts >>= λ l. compared_at (operands.Literal l.0) l.1) (λ n. column ▷ λ c. behind_column n c) (λ ts. column_at ts >>= λ c. behind_column_at depth c.0 c.1)
     (stands literal_of) depth false literal_kinds (16 ∷ []) (100 ∷ []) (16 ∷ [])
     (literal_compared depth)
     (known_as (100 ∷ []) (16 ∷ []) refl refl (both (column_field depth) (λ c. behind_column_field c depth) refl))
-    literal_tells refl)
+    literal_tells refl))
 
 -- ---- conditions
 
 -- the shortest texts
 some_compared : (n : ℕ) → Some_text (comparison n)
-some_compared n = let s = (literal_compared 0).some 0 in record { value = s.value; text = s.text; spells = inl s.spells }
+some_compared n = let s = (literal_compared 0).some 0 in record { value = s.value; text = s.text; spells = to_test n s.value s.text (inl s.spells) }
 
 some_neg : (n : ℕ) → Some_text (neg n)
 unfolding neg

@@ -1,5 +1,5 @@
 -- The grammar of statements, rule by rule.
-use Rattle.std.specs.Prelude.{ℕ, zero, suc, Bool, true, false, List, [], ◌∷◌, Option, Some, None, codes}
+use Rattle.std.specs.Prelude.{if◌then◌else◌, ℕ, zero, suc, Bool, true, false, List, [], ◌∷◌, Option, Some, None, codes}
 use Rattle.std.specs.Prelude.{nat_eq}
 use Rattle.std.specs.Cmp.Lexicographic.{pointwise}
 use Rattle.sql_values.specs.declared.literal.Literal.{Literal}
@@ -50,9 +50,8 @@ abbrev pub is_spider : Token → Bool
 is_spider (tokens.Bare n) = pointwise nat_eq n (codes "spider")
 is_spider _ = false
 
--- a name, and whether it may qualify a table
-abbrev pub head_of : Token → Option (Bool × List ℕ)
-head_of t = elim (name_of t) [ Some n ↦ Some (is_spider t, n) | None ↦ None ]
+abbrev pub spider_of : Token → Option Bool
+spider_of t = if is_spider t then Some true else None
 
 -- NAMES AND LITERALS
 
@@ -63,16 +62,12 @@ abbrev pub literal : Rule Literal
 literal = one literal_of
 
 -- table = [spider "."] name
-abbrev pub behind_head : Bool × List ℕ → Rule (List ℕ)
-behind_head (true, n) = (Dot ⊳ name) ∣ is n
-behind_head (false, n) = is n
-
 abbrev pub table : Rule (List ℕ)
-table = one head_of ▷ λ h. behind_head h
+table = (one spider_of ▷ λ _. Dot ⊳ name) ∣ name
 
--- column = name ["." name]
+-- column = [name "."] name
 abbrev pub column : Rule ColumnName
-column = name ▷ λ n. (Dot ⊳ (name ▷ λ m. is (record { table = Some n; column = m }))) ∣ is (record { table = None; column = n })
+column = (name ▷ λ t. Dot ⊳ (name ▷ λ n. is (record { table = Some t; column = n }))) ∣ (name ▷ λ n. is (record { table = None; column = n }))
 
 -- alias = [[AS] name]
 abbrev pub alias : Rule (Option (List ℕ))
@@ -87,22 +82,21 @@ operand = (literal ▷ λ l. is (operands.Literal l)) ∣ (column ▷ λ c. is (
 abbrev pub literal_list : ℕ → Rule (List Literal)
 literal_list depth = parenthesized (series Comma literal) depth
 
--- what stands behind an operand: cmp operand
-abbrev pub compared : Operand → Rule Cond
-compared left = one comparison_of ▷ λ c. operand ▷ λ right. is (conds.Compare left c right)
+-- operand cmp operand
+abbrev pub compared : Rule Cond
+compared = operand ▷ λ left. one comparison_of ▷ λ c. operand ▷ λ right. is (conds.Compare left c right)
 
--- or, behind a column, [NOT] IN "(" literal {"," literal} ")" or [NOT] BETWEEN literal AND literal
-abbrev pub listed : ℕ → ColumnName → Bool → Rule Cond
-listed depth c negated = In ⊳ (literal_list depth ▷ λ l. is (conds.In c negated l))
+-- column [NOT] IN "(" literal {"," literal} ")"
+abbrev pub listed : ℕ → Rule Cond
+listed depth = column ▷ λ c. optional Not ▷ λ negated. In ⊳ (literal_list depth ▷ λ l. is (conds.In c negated l))
 
-abbrev pub ranged : ColumnName → Bool → Rule Cond
-ranged c negated = Between ⊳ (literal ▷ λ low. And ⊳ (literal ▷ λ high. is (conds.Between c negated low high)))
+-- column [NOT] BETWEEN literal AND literal
+abbrev pub ranged : Rule Cond
+ranged = column ▷ λ c. optional Not ▷ λ negated. Between ⊳ (literal ▷ λ low. And ⊳ (literal ▷ λ high. is (conds.Between c negated low high)))
 
-abbrev pub behind_column : ℕ → ColumnName → Rule Cond
-behind_column depth c = compared (operands.Column c) ∣ (Not ⊳ (listed depth c true ∣ ranged c true)) ∣ listed depth c false ∣ ranged c false
-
+-- a test without parentheses round it
 abbrev pub comparison : ℕ → Rule Cond
-comparison depth = (literal ▷ λ l. compared (operands.Literal l)) ∣ (column ▷ λ c. behind_column depth c)
+comparison depth = compared ∣ listed depth ∣ ranged
 
 -- several parts are one node, one part alone is that part
 abbrev pub joined : (List Cond → Cond) → List Cond → Cond
@@ -117,7 +111,9 @@ conj_over neg = series And neg ▷ λ parts. is (joined conds.All parts)
 abbrev pub cond_over : Rule Cond → Rule Cond
 cond_over neg = series Or (conj_over neg) ▷ λ parts. is (joined conds.Any parts)
 
--- neg = NOT neg | test, where test = "(" cond ")" | comparison; each NOT and each parenthesis is an opening, of which at most so many stand inside one another
+-- neg = NOT neg | test
+-- test = "(" cond ")" | operand cmp operand | column [NOT] IN "(" literal {"," literal} ")" | column [NOT] BETWEEN literal AND literal
+-- Each NOT and each parenthesis is an opening, of which at most so many stand inside one another
 unfoldable pub neg : ℕ → Rule Cond
 neg zero c ts = comparison zero c ts
 neg (suc depth) c ts =

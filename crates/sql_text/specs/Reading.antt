@@ -1,5 +1,5 @@
 -- Reading tokens from left to right: what stands at the front, and the tokens behind it, or where reading stops.
-use Rattle.std.specs.Prelude.{◌≡◌, ◌++◌, ℕ, zero, suc, ◌==◌, Bool, true, false, List, [], ◌∷◌, length, Option, Some, None, Result, Ok, Err, is_some, if◌then◌else◌}
+use Rattle.std.specs.Prelude.{◌≡◌, ◌++◌, ℕ, zero, suc, ◌==◌, Bool, true, false, List, [], ◌∷◌, length, Option, Some, None, Result, Ok, Err, is_some, option_map, if◌then◌else◌}
 use Rattle.sql_values.specs.declared.literal.Literal.{Literal}
 use Rattle.sql_values.specs.declared.tree.ColumnName.{ColumnName}
 use Rattle.sql_values.specs.declared.tree.Operand.{Operand}
@@ -19,7 +19,7 @@ use Rattle.sql_text.specs.declared.token.Token.TheVariants as tokens
 use Rattle.sql_text.specs.declared.fault.Stop.{Stop}
 use Rattle.sql_text.specs.declared.fault.ReadError.{ReadError}
 use Rattle.sql_text.specs.declared.fault.ReadError.TheVariants as errors
-use Rattle.sql_text.specs.Grammar.{name_of, literal_of, comparison_of, head_of, joined}
+use Rattle.sql_text.specs.Grammar.{name_of, literal_of, comparison_of, is_spider, joined}
 
 -- FAULTS AND STEPS
 
@@ -134,6 +134,10 @@ name_at ts = one_at name_of ts
 
 unfoldable pub literal_at : List Token → Result (Literal × List Token) Stop
 literal_at ts = one_at literal_of ts
+
+-- a name, and whether it may stand before a table's
+abbrev pub head_of : Token → Option (Bool × List ℕ)
+head_of t = option_map (λ n. (is_spider t, n)) (name_of t)
 
 abbrev pub behind_head_at : Bool × List ℕ → List Token → Result (List ℕ × List Token) Stop
 behind_head_at (true, n) ts = if begins Dot ts then name_at (behind ts) else Ok (n, ts)
