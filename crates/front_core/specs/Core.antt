@@ -6,13 +6,13 @@ use Rattle.std.specs.BTreeMap.{is_at, insert_entry}
 use Rattle.std.specs.Map.{lookup, set_value, remove_entry}
 use Rattle.sql_values.specs.declared.value.Value.{Value}
 use Rattle.sql_values.specs.declared.value.Value.TheVariants as value
-use Rattle.sql_text.specs.declared.statement.Statement.{Statement}
-use Rattle.sql_text.specs.declared.statement.Statement.TheVariants.{Insert, Select}
-use Rattle.sql_text.specs.declared.link.LinkRequest.{LinkRequest}
-use Rattle.sql_text.specs.declared.link.LinkRequest.TheVariants.{Scan, Put}
-use Rattle.sql_text.specs.declared.link.LinkAnswer.{LinkAnswer}
-use Rattle.sql_text.specs.declared.link.LinkAnswer.TheVariants.{Done, Rows, Refused}
-use Rattle.sql_text.specs.Reading.{statement_of}
+use Rattle.fixed_text.specs.declared.statement.Statement.{Statement}
+use Rattle.fixed_text.specs.declared.statement.Statement.TheVariants.{Insert, Select}
+use Rattle.fixed_text.specs.declared.link.LinkRequest.{LinkRequest}
+use Rattle.fixed_text.specs.declared.link.LinkRequest.TheVariants.{Scan, Put}
+use Rattle.fixed_text.specs.declared.link.LinkAnswer.{LinkAnswer}
+use Rattle.fixed_text.specs.declared.link.LinkAnswer.TheVariants.{Done, Rows, Refused}
+use Rattle.fixed_text.specs.Reading.{statement_of}
 use Rattle.my_messages.specs.declared.reply.Reply.{Reply}
 use Rattle.plain_tables.specs.Replies.{ok_reply, syntax_reply, duplicate_reply, refused_reply, full_reply, rows_reply}
 use Rattle.plain_tables.specs.Exec.{new_row}

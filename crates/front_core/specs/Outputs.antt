@@ -1,7 +1,7 @@
 -- What is told in a list of outputs.
 use Rattle.std.specs.Prelude.{ℕ, List, [], ◌∷◌, None}
 use Rattle.std.specs.List.{AllByRecursion}
-use Rattle.sql_text.specs.declared.link.LinkRequest.{LinkRequest}
+use Rattle.fixed_text.specs.declared.link.LinkRequest.{LinkRequest}
 use Rattle.my_messages.specs.declared.reply.Reply.{Reply}
 use Rattle.my_messages.specs.Reply.{HasBytes}
 use Rattle.plain_tables.specs.Replies.{no_memory_reply}

@@ -1,7 +1,7 @@
 use crate::work::Work;
 use crate::{Event, Outputs};
 use list_types::Listed;
-use sql_text::LinkAnswer;
+use fixed_text::LinkAnswer;
 use std::alloc::Global;
 use std::collections::BTreeMap;
 use std::marker::Model;
@@ -24,7 +24,7 @@ impl Model for FrontState {
 
 impl FrontState {
     ghost use Rattle.std.specs.Prelude.{◌≡◌, true, List, [], is_some};
-    ghost use Rattle.sql_text.specs.Reading.{statement_of};
+    ghost use Rattle.fixed_text.specs.Reading.{statement_of};
     ghost use Rattle.front_core.specs.Outputs.{outputs_of, AnswersHaveBytes};
     ghost use Rattle.front_core.specs.Core.{new_front, IsStep, fits, rests, awaits, work_of, opened, closed, begun, begins, got_by, with_work, answers_awaited};
     ghost use Rattle.front_core.specs.declared.work.Work.TheVariants.{Idle};

@@ -9,7 +9,7 @@ ghost use Rattle.front_core.specs.Core.{asks as asked, is_short as short_value, 
 use crate::{Output, TxNo, replies};
 use list_types::Listed;
 use my_messages::Reply;
-use sql_text::{LinkAnswer, LinkRequest, ParseFault, Statement, parse};
+use fixed_text::{LinkAnswer, LinkRequest, ParseFault, Statement, parse};
 use sql_values::{Row, Text, Value};
 use std::alloc::{AllocError, Global};
 use std::mem;
@@ -80,7 +80,7 @@ fn committed(alloc: Global, tx: TxNo, reply: Reply) -> Result<Listed<Output>, Al
 
 impl Work {
     ghost use Rattle.std.specs.Prelude.{◌≡◌, ◌<◌, ◌+◌, ◌-◌, ◌^◌, true, [], IfOk, OnErr, Some};
-    ghost use Rattle.sql_text.specs.Reading.{statement_of};
+    ghost use Rattle.fixed_text.specs.Reading.{statement_of};
     ghost use Rattle.front_core.specs.Core.{begins, draws, refuses, commits, got, writes, awaits, is_idle as rests, answers_awaited as awaited};
 
     /// Whether no statement is at work.

@@ -2,8 +2,8 @@ use Rattle.std.proofs.Common.{◌≡◌, ℕ, zero, suc, ◌+◌, ◌-◌, ◌<�
 use Rattle.std.specs.Prelude.{◌||◌}
 use Rattle.std.specs.Option.{option_or}
 use Rattle.my_messages.specs.declared.reply.Reply.{Reply}
-use Rattle.sql_text.specs.declared.link.LinkRequest.{LinkRequest}
-use Rattle.sql_text.specs.declared.link.LinkAnswer.{LinkAnswer}
+use Rattle.fixed_text.specs.declared.link.LinkRequest.{LinkRequest}
+use Rattle.fixed_text.specs.declared.link.LinkAnswer.{LinkAnswer}
 use Rattle.front_core.specs.declared.event.Output.{Output}
 use Rattle.front_core.specs.declared.event.Event.TheVariants.{Statement as Asked}
 use Rattle.front_core.specs.declared.event.Outputs.{Outputs}

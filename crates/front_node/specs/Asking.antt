@@ -1,9 +1,9 @@
 -- A statement is run: the front asks servers, and gets their answers.
 use Rattle.std.specs.Prelude.{◌≡◌, ℕ, zero, suc, ◌++◌, ◌||◌, Bool, true, false, List, [], ◌∷◌, Option, Some, None}
 use Rattle.std.specs.Option.{option_or}
-use Rattle.sql_text.specs.declared.link.LinkRequest.{LinkRequest}
-use Rattle.sql_text.specs.declared.link.LinkRequest.TheVariants.{Scan, Put}
-use Rattle.sql_text.specs.declared.link.LinkAnswer.{LinkAnswer}
+use Rattle.fixed_text.specs.declared.link.LinkRequest.{LinkRequest}
+use Rattle.fixed_text.specs.declared.link.LinkRequest.TheVariants.{Scan, Put}
+use Rattle.fixed_text.specs.declared.link.LinkAnswer.{LinkAnswer}
 use Rattle.my_messages.specs.declared.reply.Reply.{Reply}
 use Rattle.front_core.specs.declared.event.Event.TheVariants.{Statement as Asked, Got}
 use Rattle.front_core.specs.declared.event.Output.{Output}

@@ -15,8 +15,8 @@ use Rattle.my_messages.specs.declared.reply.Reply.{Reply}
 use Rattle.my_messages.specs.declared.reply.Reply.TheVariants as replies
 use Rattle.my_messages.specs.declared.session_end.SessionEnd.{SessionEnd}
 use Rattle.my_messages.specs.declared.session_end.SessionEnd.TheVariants as ends
-use Rattle.sql_text.specs.declared.link.LinkRequest.{LinkRequest}
-use Rattle.sql_text.specs.declared.link.LinkAnswer.{LinkAnswer}
+use Rattle.fixed_text.specs.declared.link.LinkRequest.{LinkRequest}
+use Rattle.fixed_text.specs.declared.link.LinkAnswer.{LinkAnswer}
 use Rattle.front_core.specs.declared.event.Event.TheVariants.{Open, Closed}
 use Rattle.front_core.specs.declared.event.Output.{Output}
 use Rattle.front_core.specs.declared.event.Outputs.{Outputs}

@@ -1,9 +1,9 @@
 ghost use Rattle.std.specs.Prelude.{◌≡◌, true, ℕ, IfOk, OnErr};
-ghost use Rattle.sql_text.specs.declared.link.LinkRequest.{LinkRequest};
-ghost use Rattle.sql_text.specs.declared.link.LinkAnswer.{LinkAnswer};
+ghost use Rattle.fixed_text.specs.declared.link.LinkRequest.{LinkRequest};
+ghost use Rattle.fixed_text.specs.declared.link.LinkAnswer.{LinkAnswer};
 ghost use Rattle.front_node.specs.Asking.{has_form};
 
-use sql_text::{LinkAnswer, LinkRequest};
+use fixed_text::{LinkAnswer, LinkRequest};
 use sql_values::ServerNo;
 use std::alloc::{AllocError, Global};
 

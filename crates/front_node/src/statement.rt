@@ -12,7 +12,7 @@ use crate::{Backs, Kernel};
 use front_core::{Event, Output, Outputs, no_memory};
 use list_types::{Bytes, Listed};
 use my_messages::Reply;
-use sql_text::LinkRequest;
+use fixed_text::LinkRequest;
 use sql_values::ServerNo;
 use std::alloc::{AllocError, Global};
 use std::collections::VecDeque;

@@ -1,9 +1,9 @@
 use Rattle.std.specs.Prelude.{ℕ, ℤ, ◌==◌, List, [], ◌∷◌, Option, Some, None, if◌then◌else◌, length}
 use Rattle.sql_values.specs.declared.value.Value.{Value}
 use Rattle.sql_values.specs.declared.value.Value.TheVariants as value
-use Rattle.sql_text.specs.declared.statement.Statement.{Statement}
-use Rattle.sql_text.specs.declared.statement.Statement.TheVariants.{Insert, Select}
-use Rattle.sql_text.specs.Reading.{statement_of}
+use Rattle.fixed_text.specs.declared.statement.Statement.{Statement}
+use Rattle.fixed_text.specs.declared.statement.Statement.TheVariants.{Insert, Select}
+use Rattle.fixed_text.specs.Reading.{statement_of}
 use Rattle.my_messages.specs.declared.reply.Reply.{Reply}
 use Rattle.plain_tables.specs.Table.{Table, rows_of, with_key, inserted}
 use Rattle.plain_tables.specs.Replies.{ok_reply, syntax_reply, duplicate_reply, rows_reply}

@@ -5,11 +5,11 @@ use Rattle.std.specs.Ordering.{int_cmp}
 use Rattle.std.specs.BTreeMap.{insert_entry}
 use Rattle.std.proofs.lemmas.Bool.Decides.{nat_tests}
 use Rattle.sql_values.specs.declared.value.Value.{Value}
-use Rattle.sql_text.specs.declared.statement.Statement.{Statement}
-use Rattle.sql_text.specs.declared.statement.Statement.TheVariants.{Insert, Select}
-use Rattle.sql_text.specs.declared.link.LinkRequest.TheVariants.{Scan, Put}
-use Rattle.sql_text.specs.declared.link.LinkAnswer.TheVariants.{Rows}
-use Rattle.sql_text.specs.Reading.{statement_of}
+use Rattle.fixed_text.specs.declared.statement.Statement.{Statement}
+use Rattle.fixed_text.specs.declared.statement.Statement.TheVariants.{Insert, Select}
+use Rattle.fixed_text.specs.declared.link.LinkRequest.TheVariants.{Scan, Put}
+use Rattle.fixed_text.specs.declared.link.LinkAnswer.TheVariants.{Rows}
+use Rattle.fixed_text.specs.Reading.{statement_of}
 use Rattle.my_messages.specs.declared.reply.Reply.{Reply}
 use Rattle.plain_tables.specs.Table.{Table, rows_of, with_key, inserted}
 use Rattle.plain_tables.specs.Replies.{ok_reply, duplicate_reply, full_reply, rows_reply}

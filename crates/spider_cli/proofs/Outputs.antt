@@ -1,6 +1,6 @@
 use Rattle.std.proofs.Common.{◌≡◌, ℕ, zero, suc, ◌+◌, ◌-◌, ◌<◌, ◌++◌, List, [], ◌∷◌, true, false, refl, sym, ap, ◌∙◌, append_assoc, arith}
 use Rattle.std.proofs.lemmas.List.{append-nil}
-use Rattle.sql_text.specs.declared.link.LinkRequest.{LinkRequest}
+use Rattle.fixed_text.specs.declared.link.LinkRequest.{LinkRequest}
 use Rattle.front_core.specs.declared.event.Output.{Output}
 use Rattle.front_core.specs.Core.{work_of, rests}
 use Rattle.front_core.specs.Outputs.{sends}

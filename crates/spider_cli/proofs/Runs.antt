@@ -2,7 +2,7 @@ use Rattle.std.proofs.Common.{◌≡◌, inl, inr, ℕ, ◌+◌, ◌<◌, ◌≤
 use Rattle.std.specs.List.{flat_map, AllByRecursion}
 use Rattle.std.proofs.lemmas.Grind.{flat_map-append}
 use Rattle.std.proofs.lemmas.List.{append-nil}
-use Rattle.sql_text.specs.Reading.{statement_of}
+use Rattle.fixed_text.specs.Reading.{statement_of}
 use Rattle.plain_tables.specs.Table.{Table}
 use Rattle.plain_tables.specs.Exec.{exec}
 use Rattle.plain_tables.specs.Solo.{Solo, solo_answers, solo_after}

@@ -5,10 +5,10 @@ use Rattle.std.specs.Ordering.{int_cmp, match_ordering, is_eq}
 use Rattle.std.specs.BTreeMap.{insert_entry}
 use Rattle.std.proofs.lemmas.Bool.Decides.{nat_tests}
 use Rattle.sql_values.specs.declared.value.Value.{Value}
-use Rattle.sql_text.specs.declared.statement.Statement.TheVariants.{Insert}
-use Rattle.sql_text.specs.Grammar.{Piece, Part, Word, Blanks, Number, Quoted, Num, Str, Fits, insert_form}
-use Rattle.sql_text.specs.Reading.{statement_of}
-use Rattle.sql_text.proofs.Statements.{statement_sound}
+use Rattle.fixed_text.specs.declared.statement.Statement.TheVariants.{Insert}
+use Rattle.fixed_text.specs.Grammar.{Piece, Part, Word, Blanks, Number, Quoted, Num, Str, Fits, insert_form}
+use Rattle.fixed_text.specs.Reading.{statement_of}
+use Rattle.fixed_text.proofs.Statements.{statement_sound}
 use Rattle.plain_tables.specs.Table.{Table}
 use Rattle.plain_tables.specs.Exec.{new_row}
 use Rattle.front_core.specs.Core.{is_short_row}

@@ -5,9 +5,9 @@ use Rattle.std.specs.List.{AllByRecursion}
 use Rattle.std.specs.Ordering.{nat_cmp}
 use Rattle.std.specs.BTreeMap.{is_at}
 use Rattle.std.specs.Map.{lookup, set_value}
-use Rattle.sql_text.specs.declared.link.LinkRequest.{LinkRequest}
-use Rattle.sql_text.specs.declared.link.LinkAnswer.{LinkAnswer}
-use Rattle.sql_text.specs.Reading.{statement_of}
+use Rattle.fixed_text.specs.declared.link.LinkRequest.{LinkRequest}
+use Rattle.fixed_text.specs.declared.link.LinkAnswer.{LinkAnswer}
+use Rattle.fixed_text.specs.Reading.{statement_of}
 use Rattle.my_messages.specs.declared.command.Command.{Command}
 use Rattle.my_messages.specs.declared.command.Command.TheVariants.{Quit, InitDb, Query, Ping, Unknown}
 use Rattle.my_messages.specs.declared.reply.Reply.{Reply}

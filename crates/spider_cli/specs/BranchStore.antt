@@ -5,10 +5,10 @@ use Rattle.std.specs.Map.{lookup}
 use Rattle.std.specs.List.{AllByRecursion}
 use Rattle.sql_values.specs.declared.value.Value.{Value}
 use Rattle.sql_values.specs.declared.value.Value.TheVariants as value
-use Rattle.sql_text.specs.declared.link.LinkRequest.{LinkRequest}
-use Rattle.sql_text.specs.declared.link.LinkRequest.TheVariants.{Scan, Put}
-use Rattle.sql_text.specs.declared.link.LinkAnswer.{LinkAnswer}
-use Rattle.sql_text.specs.declared.link.LinkAnswer.TheVariants.{Done, Rows, Refused}
+use Rattle.fixed_text.specs.declared.link.LinkRequest.{LinkRequest}
+use Rattle.fixed_text.specs.declared.link.LinkRequest.TheVariants.{Scan, Put}
+use Rattle.fixed_text.specs.declared.link.LinkAnswer.{LinkAnswer}
+use Rattle.fixed_text.specs.declared.link.LinkAnswer.TheVariants.{Done, Rows, Refused}
 use Rattle.plain_tables.specs.Table.{Table}
 use Rattle.front_core.specs.Core.{is_short_row}
 

@@ -9,7 +9,7 @@ use crate::transcript::{push_has, push_number};
 use front_core::is_short_row;
 use front_node::Backs;
 use list_types::Listed;
-use sql_text::{LinkAnswer, LinkRequest};
+use fixed_text::{LinkAnswer, LinkRequest};
 use sql_values::{Row, Rows, ServerNo, Text, Value};
 use std::alloc::{AllocError, Global};
 use std::collections::BTreeMap;

@@ -7,7 +7,7 @@ ghost use Rattle.spider_cli.specs.Transcript.{line_end, tx_text, tx_or_none, cel
 use front_core::{Output, TxNo, VARCHAR};
 use itoa::Buffer;
 use my_messages::{Cell, CellRow, Column, Reply};
-use sql_text::push_quoted;
+use fixed_text::push_quoted;
 use sql_values::{Row, Value};
 use std::alloc::AllocError;
 

@@ -8,7 +8,7 @@ use crate::schedule::{Line, LineRule, read_line};
 use crate::transcript::push_output;
 use front_core::{Event, FrontState, Output, Outputs};
 use list_types::{Bytes, Listed};
-use sql_text::{LinkAnswer, LinkRequest};
+use fixed_text::{LinkAnswer, LinkRequest};
 use sql_values::ServerNo;
 use std::alloc::{AllocError, Global};
 use std::collections::VecDeque;

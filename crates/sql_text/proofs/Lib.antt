@@ -1,5 +1,10 @@
-pub mod Digits
-pub mod Forms
-pub mod PlainTexts
+mod Examples
+pub mod Series
+pub mod Fields
+pub mod Choices
+pub mod Nested
+pub mod ReadRules
 pub mod Statements
-pub mod Words
+pub mod Bytes
+pub mod Parses
+pub mod Joined

@@ -1,71 +1,135 @@
-use Rattle.std.proofs.Common.{rules, ◌≡◌, ◌⊎◌, inl, inr, ℕ, ℤ, List, [], ◌∷◌, Option, Some, None, Result, Ok, Err, IfOk, refl, sym, ap, ◌∙◌, subst}
+-- Reading all of a text's tokens.
+use Rattle.std.proofs.Common.{◌≡◌, ℕ, suc, ◌<◌, Bool, false, List, [], ◌∷◌, ◌++◌, length, Result, Ok, Err, refl, sym, ap, subst, ◌∙◌, append_assoc, append-nil, arith, inl, inr}
 use Rattle.sql_text.specs.declared.statement.Statement.{Statement}
-use Rattle.sql_text.specs.declared.statement.Statement.TheVariants.{Insert, Select}
-use Rattle.sql_text.specs.declared.reading.ParseFault.{ParseFault}
-use Rattle.sql_text.specs.declared.reading.ParseFault.TheVariants.{Syntax, NoMemory}
-use Rattle.sql_text.specs.Grammar.{Part, Num, Str, Fits, insert_form, select_form, IsStatement}
-use Rattle.sql_text.specs.Reading.{◌>>=◌, parts_of, number_and_text, one_number, insert_parts_of, select_parts_of, statement_from, statement_of, Gives}
-use Rattle.sql_text.proofs.Forms.{bind_some, form_sound, form_complete, IsClear}
+use Rattle.sql_text.specs.declared.token.Fixed.TheVariants.{Semicolon}
+use Rattle.sql_text.specs.declared.token.Token.{Token}
+use Rattle.sql_text.specs.declared.fault.Stop.{Stop}
+use Rattle.sql_text.specs.Grammar.{statement}
+use Rattle.sql_text.specs.Reading.{◌>>=◌, body_at, optional_at, ended, statement_at}
+use Rattle.sql_text.specs.Places.{Begins, Allowed, IsFirstBad}
+use Rattle.sql_text.proofs.Fields.{Reads, Near, Reach, Begun, stop_at, bind_ok, bind_err}
+use Rattle.sql_text.proofs.ReadRules.{whole_field}
 
-pub two_parts : (parts : List Part) (p : ℤ × List ℕ) → number_and_text parts ≡ Some p → parts ≡ Num p.0 ∷ Str p.1 ∷ []
-two_parts [] p h = absurd (cc)
-two_parts (Num k ∷ []) p h = absurd (cc)
-two_parts (Num k ∷ Num l ∷ more) p h = absurd (cc)
-two_parts (Num k ∷ Str t ∷ []) p h = let e : (k, t) ≡ p = cc in ap (λ (q : ℤ × List ℕ). Num q.0 ∷ Str q.1 ∷ []) e
-two_parts (Num k ∷ Str t ∷ x ∷ more) p h = absurd (cc)
-two_parts (Str t ∷ more) p h = absurd (cc)
+abbrev with_end : Statement → Bool × List Token → Result (Statement × List Token) Stop
+with_end s e = Ok (s, e.1)
 
-pub one_part : (parts : List Part) (k : ℤ) → one_number parts ≡ Some k → parts ≡ Num k ∷ []
-one_part [] k h = absurd (cc)
-one_part (Num n ∷ []) k h = cc
-one_part (Num n ∷ x ∷ more) k h = absurd (cc)
-one_part (Str t ∷ more) k h = absurd (cc)
+abbrev to_end : Statement × List Token → Result (Statement × List Token) Stop
+to_end s = optional_at Semicolon s.1 >>= with_end s.0
 
-pub insert_sound : (bytes : List ℕ) (p : ℤ × List ℕ) → insert_parts_of bytes ≡ Some p → Fits insert_form (Num p.0 ∷ Str p.1 ∷ []) bytes
-insert_sound bytes p h =
-    let k = bind_some (parts_of insert_form bytes) number_and_text p h in
-    subst (λ ps. Fits insert_form ps bytes) (two_parts k.0 p k.2) (form_sound insert_form bytes k.0 k.1)
+abbrev whole_at : ℕ → Reads Statement
+whole_at depth ts = body_at depth ts >>= to_end
 
-pub select_sound : (bytes : List ℕ) (key : ℤ) → select_parts_of bytes ≡ Some key → Fits select_form (Num key ∷ []) bytes
-select_sound bytes key h =
-    let k = bind_some (parts_of select_form bytes) one_number key h in
-    subst (λ ps. Fits select_form ps bytes) (one_part k.0 key k.2) (form_sound select_form bytes k.0 k.1)
+abbrev pair_ended : Statement × List Token → Result Statement Stop
+pair_ended p = ended p.0 p.1
 
-pub from_sound : (bytes : List ℕ) (i : Option (ℤ × List ℕ)) (k : Option ℤ) (s : Statement) → insert_parts_of bytes ≡ i → select_parts_of bytes ≡ k → statement_from i k ≡ Some s → IsStatement bytes s
-from_sound bytes (Some p) k s e f h = subst (IsStatement bytes) (let g : Insert p.0 p.1 ≡ s = cc in g) (insert_sound bytes p e)
-from_sound bytes None (Some key) s e f h = subst (IsStatement bytes) (let g : Select key ≡ s = cc in g) (select_sound bytes key f)
-from_sound bytes None None s e f h = absurd (cc)
+abbrev end_of : Statement × List Token → Result Statement Stop
+end_of s = optional_at Semicolon s.1 >>= λ e. ended s.0 e.1
 
--- what is read is a statement of the bytes
-pub statement_sound : (bytes : List ℕ) (s : Statement) → statement_of bytes ≡ Some s → IsStatement bytes s
-unfolding statement_of
-statement_sound bytes s h = from_sound bytes (insert_parts_of bytes) (select_parts_of bytes) s refl refl h
+end_is : (s : Statement) (r : Result (Bool × List Token) Stop) → (r >>= λ e. ended s e.1) ≡ (r >>= with_end s >>= pair_ended)
+end_is s (Ok e) = refl
+end_is s (Err stop) = refl
 
-pub insert_clear : IsClear insert_form
-insert_clear = search rules
+whole_is : (r : Result (Statement × List Token) Stop) → (r >>= end_of) ≡ (r >>= to_end >>= pair_ended)
+whole_is (Ok s) = end_is s.0 (optional_at Semicolon s.1)
+whole_is (Err stop) = refl
 
-pub select_clear : IsClear select_form
-select_clear = search rules
+statement_is : (depth : ℕ) (ts : List Token) → statement_at depth ts ≡ (whole_at depth ts >>= pair_ended)
+unfolding statement_at
+statement_is depth ts = whole_is (body_at depth ts)
 
--- a statement of the bytes is read
-pub statement_complete : (bytes : List ℕ) (s : Statement) → IsStatement bytes s → statement_of bytes ≡ Some s
-unfolding statement_of
-statement_complete bytes (Insert key text) h =
-    ap (λ o. statement_from (o >>= number_and_text) (select_parts_of bytes)) (form_complete insert_form (Num key ∷ Str text ∷ []) bytes insert_clear h)
-statement_complete bytes (Select key) h =
-    ap (λ bs. statement_from (insert_parts_of bs) (select_parts_of bytes)) h.1
-    ∙ ap (λ o. statement_from None (o >>= one_number)) (form_complete select_form (Num key ∷ []) bytes select_clear h)
+ended_ok : (p : Statement × List Token) (s : Statement) → pair_ended p ≡ Ok s → (p.0 ≡ s) × (p.1 ≡ [])
+ended_ok (r, []) s e = (cc, refl)
+ended_ok (r, t ∷ ts) s e = absurd cc
 
-pub found : (bytes : List ℕ) (r : Result Statement ParseFault) → Gives r (statement_of bytes) → IfOk r (IsStatement bytes)
-found bytes (Ok s) h = statement_sound bytes s h
-found bytes (Err e) h = tt
+ended_err : (p : Statement × List Token) (stop : Stop) → pair_ended p ≡ Err stop → (b : Token) × (old : List Token) × (p.1 ≡ b ∷ old) × (stop ≡ stop_at false (suc (length old)))
+ended_err (r, []) stop e = absurd cc
+ended_err (r, t ∷ ts) stop e = (t, ts, refl, cc)
 
-pub only : (bytes : List ℕ) (r : Result Statement ParseFault) (s : Statement) → Gives r (statement_of bytes) → IsStatement bytes s → (r ≡ Err NoMemory) ⊎ (r ≡ Ok s)
-only bytes (Ok t) s h i = inr (let e : Some t ≡ Some s = sym h ∙ statement_complete bytes s i in cc)
-only bytes (Err NoMemory) s h i = inl refl
-only bytes (Err (Syntax place)) s h i = absurd (let e : None ≡ Some s = sym h.0 ∙ statement_complete bytes s i in cc)
+-- what is read is a statement
+pub read_found : (depth : ℕ) (ts : List Token) (s : Statement) → statement_at depth ts ≡ Ok s → statement depth s ts
+read_found depth ts s e =
+    let p = bind_ok (whole_at depth ts) pair_ended s (sym (statement_is depth ts) ∙ e) in
+    let q = ended_ok p.0 s p.2 in
+    let t = (whole_field depth).took ts p.0.0 p.0.1 p.1 in
+    let all : t.front ≡ ts = sym (t.split ∙ ap (λ (l : List Token). t.front ++ l) q.1 ∙ append-nil t.front) in
+    subst (statement depth s) all (subst (λ v. statement depth v t.front) q.0 (t.spells depth (omega arith)))
 
-pub refused : (bytes : List ℕ) (r : Result Statement ParseFault) (place : ℕ) → Gives r (statement_of bytes) → r ≡ Err (Syntax place) → (place ≡ 0) × ((s : Statement) → ¬ IsStatement bytes s)
-refused bytes r place h e =
-    let g : Gives (Err (Syntax place)) (statement_of bytes) = subst (λ q. Gives q (statement_of bytes)) e h in
-    (g.1, λ s i. let f : None ≡ Some s = sym g.0 ∙ statement_complete bytes s i in cc)
+near_ended : (depth deeper : ℕ) (s : Statement) (r : Result (Statement × List Token) Stop) → Reach depth deeper s [] r → Near depth deeper s (r >>= pair_ended)
+near_ended depth deeper s (Ok p) h = subst (λ (q : Statement × List Token). Near depth deeper s (pair_ended q)) (sym h) refl
+near_ended depth deeper s (Err stop) h = h
+
+whole_near : (depth deeper : ℕ) (s : Statement) (ts : List Token) → statement deeper s ts → Reach depth deeper s [] (whole_at depth ts)
+whole_near depth deeper s ts h = subst (λ (l : List Token). Reach depth deeper s [] (whole_at depth l)) (append-nil ts) ((whole_field depth).again deeper s ts [] h tt)
+
+read_near : (depth deeper : ℕ) (s : Statement) (ts : List Token) → statement deeper s ts → Near depth deeper s (statement_at depth ts)
+read_near depth deeper s ts h = subst (Near depth deeper s) (sym (statement_is depth ts)) (near_ended depth deeper s (whole_at depth ts) (whole_near depth deeper s ts h))
+
+-- a statement is read
+pub read_again : (depth : ℕ) (s : Statement) (ts : List Token) → statement depth s ts → statement_at depth ts ≡ Ok s
+read_again depth s ts h =
+    (elim (statement_at depth ts) as (λ r. Near depth depth s r → r ≡ Ok s) [
+      | Ok t ↦ λ n. ap Ok n
+      | Err stop ↦ λ n. absurd (let l : depth < depth = n.1 in omega arith)
+    ]) (read_near depth depth s ts h)
+
+-- no statement is read where reading stops
+never : (most : ℕ) (stop : Stop) (depth : ℕ) (s : Statement) (r : Result (Statement × List Token) Stop) → Allowed stop.deep most depth → r ≡ Err stop → Reach most depth s [] r → ⊥
+never most stop depth s r allowed e n =
+    let m : Near {Y = Statement × List Token} most depth (s, []) (Err stop) = subst (Near {Y = Statement × List Token} most depth (s, [])) e n in
+    let same : depth ≡ most = subst (λ d. Allowed d most depth) m.0 allowed in
+    let less : most < depth = m.1 in
+    omega arith
+
+begun_begins : (most : ℕ) (front : List Token) → Begun statement most front → Begins (suc most) front
+begun_begins most front b = record { value = b.value; more = b.more; spells = b.spells }
+
+stuck_bad : (most : ℕ) (ts : List Token) (stop : Stop) → whole_at most ts ≡ Err stop → IsFirstBad most stop.deep ts stop.left
+stuck_bad most ts stop e =
+    let s = (whole_field most).stuck ts stop e in
+    record {
+      before = s.before;
+      after = s.after;
+      split = s.split;
+      left_is = s.left;
+      begins = begun_begins most s.before s.begins;
+      bad = λ b old depth k allowed begun.
+          let stays = s.stays b old begun.more k in
+          never most (stop_at stop.deep (suc (length begun.more))) depth begun.value (whole_at most (s.before ++ (b ∷ begun.more))) allowed stays
+          (whole_near most depth begun.value (s.before ++ (b ∷ begun.more)) (subst (statement depth begun.value) (append_assoc s.before (b ∷ []) begun.more) begun.spells));
+      none = λ v depth allowed h. never most stop depth v (whole_at most ts) allowed e (whole_near most depth v ts h);
+      opens = λ d. let q = s.deep d in (q.0, q.1, q.2, q.3, begun_begins most (s.before ++ (q.0 ∷ [])) q.4);
+    }
+
+-- more stands behind what is read
+behind_bad : (most : ℕ) (ts : List Token) (v : Statement) (b : Token) (old : List Token) → whole_at most ts ≡ Ok (v, b ∷ old) → IsFirstBad most false ts (suc (length old))
+behind_bad most ts v b old e =
+    let t = (whole_field most).took ts v (b ∷ old) e in
+    let further : (new : List Token) (s : Statement) (depth : ℕ) → statement depth s (t.front ++ (b ∷ new)) → ⊥ = λ new s depth h.
+    let n = whole_near most depth s (t.front ++ (b ∷ new)) h in
+    let m : Near {Y = Statement × List Token} most depth (s, []) (Ok (v, b ∷ new)) = subst (Near {Y = Statement × List Token} most depth (s, [])) (t.looks b old new refl) n in
+    let f : b ∷ new ≡ [] = ap (λ (p : Statement × List Token). p.1) m in
+    cc in
+    record {
+      before = t.front;
+      after = b ∷ old;
+      split = t.split;
+      left_is = refl;
+      begins = record { value = v; more = []; spells = subst (statement (suc most) v) (sym (append-nil t.front)) (t.spells (suc most) (omega arith)) };
+      bad = λ c new depth k allowed begun.
+          let same : b ≡ c = cc in
+          further begun.more begun.value depth
+          (subst (λ d. statement depth begun.value (t.front ++ (d ∷ begun.more))) (sym same) (subst (statement depth begun.value) (append_assoc t.front (c ∷ []) begun.more) begun.spells));
+      none = λ s depth allowed h. further old s depth (subst (statement depth s) t.split h);
+      opens = λ d. absurd cc;
+    }
+
+-- where reading stops, the first token stands that can't stand there
+pub read_bad : (most : ℕ) (ts : List Token) (stop : Stop) → statement_at most ts ≡ Err stop → IsFirstBad most stop.deep ts stop.left
+read_bad most ts stop e =
+    elim (bind_err (whole_at most ts) pair_ended stop (sym (statement_is most ts) ∙ e)) [
+      | inl h ↦ stuck_bad most ts stop h
+      | inr h ↦
+          let k = ended_err h.0 stop h.2 in
+          let read : whole_at most ts ≡ Ok (h.0.0, k.0 ∷ k.1) = h.1 ∙ ap (λ (l : List Token). Ok (h.0.0, l)) k.2 in
+          subst (λ (s : Stop). IsFirstBad most s.deep ts s.left) (sym k.3) (behind_bad most ts h.0.0 k.0 k.1 read)
+    ]

@@ -1,90 +1,169 @@
-use Rattle.std.specs.Prelude.{◌≡◌, ℕ, ◌+◌, ◌-◌, ◌*◌, ◌^◌, ◌<◌, ◌≤◌, ℤ, pos, neg_ℤ, List, [], ◌∷◌, ◌++◌, length, replicate, codes}
-use Rattle.std.specs.List.{AllByRecursion}
+-- The grammar of statements, rule by rule.
+use Rattle.std.specs.Prelude.{if◌then◌else◌, ℕ, zero, suc, Bool, true, false, List, [], ◌∷◌, Option, Some, None, codes}
+use Rattle.std.specs.Prelude.{nat_eq}
+use Rattle.std.specs.Cmp.Lexicographic.{pointwise}
+use Rattle.sql_values.specs.declared.literal.Literal.{Literal}
+use Rattle.sql_values.specs.declared.literal.Literal.TheVariants as literals
+use Rattle.sql_values.specs.declared.tree.ColumnName.{ColumnName}
+use Rattle.sql_values.specs.declared.tree.Comparison.{Comparison}
+use Rattle.sql_values.specs.declared.tree.Comparison.TheVariants as comparisons
+use Rattle.sql_values.specs.declared.tree.Operand.{Operand}
+use Rattle.sql_values.specs.declared.tree.Operand.TheVariants as operands
+use Rattle.sql_values.specs.declared.tree.Cond.{Cond}
+use Rattle.sql_values.specs.declared.tree.Cond.TheVariants as conds
 use Rattle.sql_text.specs.declared.statement.Statement.{Statement}
-use Rattle.sql_text.specs.declared.statement.Statement.TheVariants.{Insert, Select}
+use Rattle.sql_text.specs.declared.statement.Statement.TheVariants as statements
+use Rattle.sql_text.specs.declared.statement.SelectItems.{SelectItems}
+use Rattle.sql_text.specs.declared.statement.SelectItems.TheVariants as items
+use Rattle.sql_text.specs.declared.statement.Item.{Item}
+use Rattle.sql_text.specs.declared.statement.Tab.{Tab}
+use Rattle.sql_text.specs.declared.token.Fixed.TheVariants.{And, As, Between, From, In, Insert, Into, Not, Null, Or, Select, Values, Where, Open, Close, Comma, Dot, Star, Semicolon, Equal, NotEqual, Less, AtMost, Greater, AtLeast}
+use Rattle.sql_text.specs.declared.token.Token.{Token}
+use Rattle.sql_text.specs.declared.token.Token.TheVariants as tokens
+use Rattle.sql_text.specs.Rules.{Rule, is, one, ◌⊳◌, ◌▷◌, ◌∣◌, optional, series, at_most_further, parenthesized}
 
--- NUMBERS AND TEXTS
+-- THE VALUES OF SINGLE TOKENS
 
-abbrev pub IsDigit : ℕ → Type 0
-IsDigit d = (48 ≤ d) × (d ≤ 57)
+abbrev pub name_of : Token → Option (List ℕ)
+name_of (tokens.Bare n) = Some n
+name_of (tokens.Quoted n) = Some n
+name_of _ = None
 
--- the number that decimal digits stand for, after digits that stand for n
-abbrev pub value_after : ℕ → List ℕ → ℕ
-value_after n [] = n
-value_after n (d ∷ ds) = value_after (10 * n + (d - 48)) ds
+abbrev pub literal_of : Token → Option Literal
+literal_of (tokens.Digits n) = Some (literals.Number n)
+literal_of (tokens.Signed n) = Some (literals.Number n)
+literal_of (tokens.Text t) = Some (literals.Text t)
+literal_of (tokens.Fixed Null) = Some literals.Null
+literal_of _ = None
 
-pub data Sign : Type 0 where
-  NoSign : Sign
-  Plus : Sign
-  Minus : Sign
+abbrev pub comparison_of : Token → Option Comparison
+comparison_of (tokens.Fixed Equal) = Some comparisons.Equal
+comparison_of (tokens.Fixed NotEqual) = Some comparisons.NotEqual
+comparison_of (tokens.Fixed Less) = Some comparisons.Less
+comparison_of (tokens.Fixed AtMost) = Some comparisons.AtMost
+comparison_of (tokens.Fixed Greater) = Some comparisons.Greater
+comparison_of (tokens.Fixed AtLeast) = Some comparisons.AtLeast
+comparison_of _ = None
 
-abbrev pub sign_text : Sign → List ℕ
-sign_text NoSign = []
-sign_text Plus = 43 ∷ []
-sign_text Minus = 45 ∷ []
+-- the word `spider` as it is written
+abbrev pub is_spider : Token → Bool
+is_spider (tokens.Bare n) = pointwise nat_eq n (codes "spider")
+is_spider _ = false
 
--- a number in the range of a BIGINT, with its sign
-abbrev pub IsSigned : Sign → ℕ → ℤ → Type 0
-IsSigned NoSign n z = (n < 2 ^ 63) × (z ≡ pos n)
-IsSigned Plus n z = (n < 2 ^ 63) × (z ≡ pos n)
-IsSigned Minus n z = (n ≤ 2 ^ 63) × (z ≡ neg_ℤ (pos n))
+abbrev pub spider_of : Token → Option Bool
+spider_of t = if is_spider t then Some true else None
 
--- a sign or none, and then digits, at least one
-pub record IsInteger (bytes : List ℕ) (z : ℤ) : Type 0 where
-  pub sign : Sign
-  pub digits : List ℕ
-  pub spelled : bytes ≡ sign_text sign ++ digits
-  pub some : 0 < length digits
-  pub each : AllByRecursion IsDigit digits
-  pub signed : IsSigned sign (value_after 0 digits) z
+-- NAMES AND LITERALS
 
--- what may stand in a text: a byte from 20 to 7E that is no quote and no backslash
-abbrev pub IsPlainByte : ℕ → Type 0
-IsPlainByte b = (32 ≤ b) × (b ≤ 126) × (b ≡ 39 → ⊥) × (b ≡ 92 → ⊥)
+abbrev pub name : Rule (List ℕ)
+name = one name_of
 
-abbrev pub IsPlainText : List ℕ → Type 0
-IsPlainText text = (length text ≤ 20) × AllByRecursion IsPlainByte text
+abbrev pub literal : Rule Literal
+literal = one literal_of
 
--- FORMS
+-- table = [spider "."] name
+abbrev pub table : Rule (List ℕ)
+table = (one spider_of ▷ λ _. Dot ⊳ name) ∣ name
 
--- what a form consists of
-pub data Piece : Type 0 where
-  Word : List ℕ → Piece
-  Blanks : ℕ → Piece
-  Number : Piece
-  Quoted : Piece
+-- column = [name "."] name
+abbrev pub column : Rule ColumnName
+column = (name ▷ λ t. Dot ⊳ (name ▷ λ n. is (record { table = Some t; column = n }))) ∣ (name ▷ λ n. is (record { table = None; column = n }))
 
--- what its number and its text are
-pub data Part : Type 0 where
-  Num : ℤ → Part
-  Str : List ℕ → Part
+-- alias = [[AS] name]
+abbrev pub alias : Rule (Option (List ℕ))
+alias = (As ⊳ (name ▷ λ n. is (Some n))) ∣ (name ▷ λ n. is (Some n)) ∣ is None
 
--- the bytes are those pieces, one after the other, and the numbers and texts among them are these parts
-abbrev pub Fits : List Piece → List Part → List ℕ → Type 0
-Fits [] [] bytes = bytes ≡ []
-Fits [] (part ∷ parts) bytes = ⊥
-Fits (Word word ∷ form) parts bytes = (rest : List ℕ) × (bytes ≡ word ++ rest) × Fits form parts rest
-Fits (Blanks least ∷ form) parts bytes = (count : ℕ) × (rest : List ℕ) × (least ≤ count) × (bytes ≡ replicate count 32 ++ rest) × Fits form parts rest
-Fits (Number ∷ form) [] bytes = ⊥
-Fits (Number ∷ form) (Num z ∷ parts) bytes = (number : List ℕ) × (rest : List ℕ) × IsInteger number z × (bytes ≡ number ++ rest) × Fits form parts rest
-Fits (Number ∷ form) (Str text ∷ parts) bytes = ⊥
-Fits (Quoted ∷ form) [] bytes = ⊥
-Fits (Quoted ∷ form) (Num z ∷ parts) bytes = ⊥
-Fits (Quoted ∷ form) (Str text ∷ parts) bytes = (rest : List ℕ) × IsPlainText text × (bytes ≡ 39 ∷ (text ++ (39 ∷ rest))) × Fits form parts rest
+-- CONDITIONS
 
--- INSERT INTO t VALUES (n, x)
-abbrev pub insert_form : List Piece
-insert_form =
-    Word (codes "INSERT") ∷ Blanks 1 ∷ Word (codes "INTO") ∷ Blanks 1 ∷ Word (codes "t") ∷ Blanks 1 ∷ Word (codes "VALUES")
-    ∷ Blanks 0 ∷ Word (codes "(") ∷ Blanks 0 ∷ Number ∷ Blanks 0 ∷ Word (codes ",") ∷ Blanks 0 ∷ Quoted ∷ Blanks 0 ∷ Word (codes ")") ∷ []
+-- operand = literal | column
+abbrev pub operand : Rule Operand
+operand = (literal ▷ λ l. is (operands.Literal l)) ∣ (column ▷ λ c. is (operands.Column c))
 
--- SELECT v FROM t WHERE k = n
-abbrev pub select_form : List Piece
-select_form =
-    Word (codes "SELECT") ∷ Blanks 1 ∷ Word (codes "v") ∷ Blanks 1 ∷ Word (codes "FROM") ∷ Blanks 1 ∷ Word (codes "t") ∷ Blanks 1 ∷ Word (codes "WHERE")
-    ∷ Blanks 1 ∷ Word (codes "k") ∷ Blanks 0 ∷ Word (codes "=") ∷ Blanks 0 ∷ Number ∷ []
+abbrev pub literal_list : ℕ → Rule (List Literal)
+literal_list depth = parenthesized (series Comma literal) depth
 
--- the bytes are a text of the statement
-abbrev pub IsStatement : List ℕ → Statement → Type 0
-IsStatement bytes (Insert key text) = Fits insert_form (Num key ∷ Str text ∷ []) bytes
-IsStatement bytes (Select key) = Fits select_form (Num key ∷ []) bytes
+-- operand cmp operand
+abbrev pub compared : Rule Cond
+compared = operand ▷ λ left. one comparison_of ▷ λ c. operand ▷ λ right. is (conds.Compare left c right)
+
+-- column [NOT] IN "(" literal {"," literal} ")"
+abbrev pub listed : ℕ → Rule Cond
+listed depth = column ▷ λ c. optional Not ▷ λ negated. In ⊳ (literal_list depth ▷ λ l. is (conds.In c negated l))
+
+-- column [NOT] BETWEEN literal AND literal
+abbrev pub ranged : Rule Cond
+ranged = column ▷ λ c. optional Not ▷ λ negated. Between ⊳ (literal ▷ λ low. And ⊳ (literal ▷ λ high. is (conds.Between c negated low high)))
+
+-- a test without parentheses round it
+abbrev pub comparison : ℕ → Rule Cond
+comparison depth = compared ∣ listed depth ∣ ranged
+
+-- several parts are one node, one part alone is that part
+abbrev pub joined : (List Cond → Cond) → List Cond → Cond
+joined node (c ∷ []) = c
+joined node parts = node parts
+
+-- conj = neg {AND neg}
+abbrev pub conj_over : Rule Cond → Rule Cond
+conj_over neg = series And neg ▷ λ parts. is (joined conds.All parts)
+
+-- cond = conj {OR conj}
+abbrev pub cond_over : Rule Cond → Rule Cond
+cond_over neg = series Or (conj_over neg) ▷ λ parts. is (joined conds.Any parts)
+
+-- neg = NOT neg | test
+-- test = "(" cond ")" | operand cmp operand | column [NOT] IN "(" literal {"," literal} ")" | column [NOT] BETWEEN literal AND literal
+-- Each NOT and each parenthesis is an opening, of which at most so many stand inside one another
+unfoldable pub neg : ℕ → Rule Cond
+neg zero c ts = comparison zero c ts
+neg (suc depth) c ts =
+    ((Not ⊳ (neg depth ▷ λ part. is (conds.Not part))) ∣ (Open ⊳ (cond_over (neg depth) ▷ λ part. Close ⊳ is part)) ∣ comparison (suc depth)) c ts
+
+abbrev pub cond : ℕ → Rule Cond
+cond depth = cond_over (neg depth)
+
+-- STATEMENTS
+
+-- tuple = "(" literal {"," literal} ")"
+abbrev pub tuple : ℕ → Rule (List Literal)
+tuple depth = literal_list depth
+
+abbrev pub column_list : ℕ → Rule (Option (List (List ℕ)))
+column_list depth = (parenthesized (series Comma name) depth ▷ λ l. is (Some l)) ∣ is None
+
+-- insert = INSERT [INTO] table ["(" name {"," name} ")"] VALUES tuple {"," tuple}
+abbrev pub insert : ℕ → Rule Statement
+insert depth =
+    Insert ⊳ (optional Into ▷ λ _. table ▷ λ t. column_list depth ▷ λ c. Values ⊳ (series Comma (tuple depth) ▷ λ r.
+    is (statements.Insert (record { table = t; columns = c; rows = r }))))
+
+-- item = column [[AS] name]
+abbrev pub item : Rule Item
+item = column ▷ λ c. alias ▷ λ a. is (record { column = c; alias = a })
+
+-- items = "*" | item {"," item}, at most 900 of them
+abbrev pub select_items : Rule SelectItems
+select_items = (Star ⊳ is items.All) ∣ (item ▷ λ i. at_most_further 899 Comma item ▷ λ l. is (items.Columns (i ∷ l)))
+
+-- tab = table [[AS] name]
+abbrev pub tab : Rule Tab
+tab = table ▷ λ t. alias ▷ λ a. is (record { table = t; alias = a })
+
+abbrev pub where_cond : ℕ → Rule (Option Cond)
+where_cond depth = (Where ⊳ (cond depth ▷ λ c. is (Some c))) ∣ is None
+
+-- select = SELECT items FROM tab [WHERE cond]
+abbrev pub select : ℕ → Rule Statement
+select depth = Select ⊳ (select_items ▷ λ i. From ⊳ (tab ▷ λ t. where_cond depth ▷ λ c. is (statements.Select (record { items = i; tab = t; cond = c }))))
+
+-- statement = (insert | select) [";"]
+abbrev pub statement : ℕ → Rule Statement
+statement depth = (insert depth ∣ select depth) ▷ λ s. optional Semicolon ▷ λ _. is s
+
+-- how many openings may stand inside one another
+abbrev pub most_openings : ℕ
+most_openings = 64
+
+-- the tokens are a statement
+abbrev pub IsStatement : List Token → Statement → Type 0
+IsStatement ts s = statement most_openings s ts

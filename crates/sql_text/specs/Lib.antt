@@ -1,3 +1,8 @@
+pub mod Tokens
+pub mod Lexing
+pub mod Rules
 pub mod Grammar
-pub mod Print
 pub mod Reading
+pub mod Places
+pub mod Parsing
+pub mod Printing

@@ -1,105 +1,253 @@
-use Rattle.std.specs.Prelude.{◌≡◌, ℕ, ◌+◌, ◌-◌, ◌*◌, ◌^◌, ◌&&◌, not, Bool, true, false, ℤ, pos, neg_ℤ, List, [], ◌∷◌, ◌++◌, length, Option, Some, None, option_and_then, if◌then◌else◌, ◌==◌, nat_lt, nat_le, Result, Ok, Err}
-use Rattle.sql_text.specs.declared.reading.ParseFault.{ParseFault}
-use Rattle.sql_text.specs.declared.reading.ParseFault.TheVariants.{Syntax, NoMemory}
+-- Reading tokens from left to right: what stands at the front, and the tokens behind it, or where reading stops.
+use Rattle.std.specs.Prelude.{◌≡◌, ◌++◌, ℕ, zero, suc, ◌==◌, Bool, true, false, List, [], ◌∷◌, length, Option, Some, None, Result, Ok, Err, is_some, option_map, if◌then◌else◌}
+use Rattle.sql_values.specs.declared.literal.Literal.{Literal}
+use Rattle.sql_values.specs.declared.tree.ColumnName.{ColumnName}
+use Rattle.sql_values.specs.declared.tree.Operand.{Operand}
+use Rattle.sql_values.specs.declared.tree.Operand.TheVariants as operands
+use Rattle.sql_values.specs.declared.tree.Cond.{Cond}
+use Rattle.sql_values.specs.declared.tree.Cond.TheVariants as conds
 use Rattle.sql_text.specs.declared.statement.Statement.{Statement}
-use Rattle.sql_text.specs.declared.statement.Statement.TheVariants.{Insert, Select}
-use Rattle.sql_text.specs.Grammar.{Piece, Word, Blanks, Number, Quoted, Part, Num, Str, insert_form, select_form}
+use Rattle.sql_text.specs.declared.statement.Statement.TheVariants as statements
+use Rattle.sql_text.specs.declared.statement.SelectItems.{SelectItems}
+use Rattle.sql_text.specs.declared.statement.SelectItems.TheVariants as items
+use Rattle.sql_text.specs.declared.statement.Item.{Item}
+use Rattle.sql_text.specs.declared.statement.Tab.{Tab}
+use Rattle.sql_text.specs.declared.token.Fixed.{Fixed}
+use Rattle.sql_text.specs.declared.token.Fixed.TheVariants.{And, As, Between, From, In, Insert, Into, Not, Null, Or, Select, Values, Where, Open, Close, Comma, Dot, Star, Semicolon, Equal, NotEqual, Less, AtMost, Greater, AtLeast}
+use Rattle.sql_text.specs.declared.token.Token.{Token}
+use Rattle.sql_text.specs.declared.token.Token.TheVariants as tokens
+use Rattle.sql_text.specs.declared.fault.Stop.{Stop}
+use Rattle.sql_text.specs.declared.fault.ReadError.{ReadError}
+use Rattle.sql_text.specs.declared.fault.ReadError.TheVariants as errors
+use Rattle.sql_text.specs.Grammar.{name_of, literal_of, comparison_of, is_spider, joined}
+
+-- FAULTS AND STEPS
+
+abbrev pub syntax : {X : Type 0} → List Token → Result X Stop
+syntax ts = Err (record { deep = false; left = length ts })
+
+abbrev pub too_deep : {X : Type 0} → List Token → Result X Stop
+too_deep ts = Err (record { deep = true; left = length ts })
 
 infixl 10 ◌>>=◌
-abbrev pub ◌>>=◌ : {A B : Type 0} → Option A → (A → Option B) → Option B
-o >>= f = option_and_then f o
+abbrev pub ◌>>=◌ : {A B : Type 0} → Result A Stop → (A → Result B Stop) → Result B Stop
+(Ok x) >>= f = f x
+(Err e) >>= f = Err e
 
--- each of these reads something at the front, and gives it and what is left
+-- reading stops so, unless memory ran out
+abbrev pub Fails : {Y : Type 0} → ReadError → Result Y Stop → Type 0
+Fails errors.Memory read = Unit {0}
+Fails (errors.Stopped stop) read = read ≡ Err stop
 
-abbrev pub after : List ℕ → List ℕ → Option (List ℕ)
-after [] bytes = Some bytes
-after (w ∷ word) [] = None
-after (w ∷ word) (b ∷ bytes) = if b == w then after word bytes else None
+-- what a function answered, seen by view, is what reading gives, unless memory ran out
+abbrev pub Gives : {X Y : Type 0} → (X → Y) → Result X ReadError → Result Y Stop → Type 0
+Gives view (Ok x) read = read ≡ Ok (view x)
+Gives view (Err e) read = Fails e read
 
--- blanks, at least so many
-abbrev pub after_blanks : ℕ → List ℕ → Option (List ℕ)
-after_blanks least [] = if least == 0 then Some [] else None
-after_blanks least (b ∷ bytes) = if b == 32 then after_blanks (least - 1) bytes else (if least == 0 then Some (b ∷ bytes) else None)
+-- a number of each keyword and symbol
+abbrev pub number_of : Fixed → ℕ
+number_of And = 0
+number_of As = 1
+number_of Between = 2
+number_of From = 3
+number_of In = 4
+number_of Insert = 5
+number_of Into = 6
+number_of Not = 7
+number_of Null = 8
+number_of Or = 9
+number_of Select = 10
+number_of Values = 11
+number_of Where = 12
+number_of Open = 13
+number_of Close = 14
+number_of Comma = 15
+number_of Dot = 16
+number_of Star = 17
+number_of Semicolon = 18
+number_of Equal = 19
+number_of NotEqual = 20
+number_of Less = 21
+number_of AtMost = 22
+number_of Greater = 23
+number_of AtLeast = 24
 
-abbrev pub is_digit : ℕ → Bool
-is_digit b = nat_le 48 b && nat_le b 57
+abbrev pub is_fixed : Fixed → Token → Bool
+is_fixed f (tokens.Fixed g) = number_of g == number_of f
+is_fixed f _ = false
 
--- the digits at the front, after digits that stand for n
-abbrev pub digits_from : ℕ → List ℕ → ℕ × List ℕ
-digits_from n [] = (n, [])
-digits_from n (b ∷ bytes) = if is_digit b then digits_from (10 * n + (b - 48)) bytes else (n, b ∷ bytes)
+-- this keyword or symbol stands at the front
+abbrev pub begins : Fixed → List Token → Bool
+begins f [] = false
+begins f (t ∷ ts) = is_fixed f t
 
--- digits, at least one, for at most 2^63
-abbrev pub natural_at : List ℕ → Option (ℕ × List ℕ)
-natural_at [] = None
-natural_at (b ∷ bytes) =
-    if is_digit b
-    then (let d = digits_from (b - 48) bytes in if nat_le d.0 (2 ^ 63) then Some d else None)
-    else None
+-- a token with a value stands at the front
+abbrev pub stands : {X : Type 0} → (Token → Option X) → List Token → Bool
+stands value [] = false
+stands value (t ∷ ts) = is_some (value t)
 
-abbrev pub signed_of : Bool → ℕ → Option ℤ
-signed_of true n = if nat_le n (2 ^ 63) then Some (neg_ℤ (pos n)) else None
-signed_of false n = if nat_lt n (2 ^ 63) then Some (pos n) else None
+abbrev pub behind : List Token → List Token
+behind [] = []
+behind (t ∷ ts) = ts
 
-abbrev pub signed_at : Bool → List ℕ → Option (ℤ × List ℕ)
-signed_at negative bytes = natural_at bytes >>= λ n. signed_of negative n.0 >>= λ z. Some (z, n.1)
+-- what stands behind this keyword or symbol
+unfoldable pub expect : Fixed → List Token → Result (List Token) Stop
+expect f ts = if begins f ts then Ok (behind ts) else syntax ts
 
-abbrev pub integer_at : List ℕ → Option (ℤ × List ℕ)
-integer_at [] = None
-integer_at (b ∷ bytes) = if b == 45 then signed_at true bytes else (if b == 43 then signed_at false bytes else signed_at false (b ∷ bytes))
+abbrev pub value_before : {X : Type 0} → Option X → Token → List Token → Result (X × List Token) Stop
+value_before (Some x) t ts = Ok (x, ts)
+value_before None t ts = syntax (t ∷ ts)
 
-abbrev pub is_plain : ℕ → Bool
-is_plain b = nat_le 32 b && nat_le b 126 && not (b == 92)
+abbrev pub one_at : {X : Type 0} → (Token → Option X) → List Token → Result (X × List Token) Stop
+one_at value [] = syntax []
+one_at value (t ∷ ts) = value_before (value t) t ts
 
--- with these bytes in front of the text
-abbrev pub onto_text : List ℕ → Option (List ℕ × List ℕ) → Option (List ℕ × List ℕ)
-onto_text front None = None
-onto_text front (Some t) = Some (front ++ t.0, t.1)
+-- what stands behind this keyword or symbol, which opens, with so many openings left
+unfoldable pub open_at : Fixed → ℕ → List Token → Result (List Token) Stop
+open_at f zero ts = if begins f ts then too_deep ts else syntax ts
+open_at f (suc depth) ts = expect f ts
 
--- the text up to a quote
-abbrev pub text_from : List ℕ → Option (List ℕ × List ℕ)
-text_from [] = None
-text_from (b ∷ bytes) =
-    if b == 39 then Some ([], bytes)
-    else (if is_plain b then onto_text (b ∷ []) (text_from bytes) else None)
+unfoldable pub optional_at : Fixed → List Token → Result (Bool × List Token) Stop
+optional_at f ts = if begins f ts then Ok (true, behind ts) else Ok (false, ts)
 
-abbrev pub quoted_at : List ℕ → Option (List ℕ × List ℕ)
-quoted_at bytes = after (39 ∷ []) bytes >>= λ rest. text_from rest >>= λ t. if nat_le (length t.0) 20 then Some t else None
+-- these values in front
+abbrev pub with_front : {X : Type 0} → List X → Result (List X × List Token) Stop → Result (List X × List Token) Stop
+with_front front read = read >>= λ x. Ok (front ++ x.0, x.1)
 
--- the parts of a form
-abbrev pub parts_of : List Piece → List ℕ → Option (List Part)
-parts_of [] bytes = if length bytes == 0 then Some [] else None
-parts_of (Word word ∷ form) bytes = after word bytes >>= parts_of form
-parts_of (Blanks least ∷ form) bytes = after_blanks least bytes >>= parts_of form
-parts_of (Number ∷ form) bytes = integer_at bytes >>= λ n. parts_of form n.1 >>= λ parts. Some (Num n.0 ∷ parts)
-parts_of (Quoted ∷ form) bytes = quoted_at bytes >>= λ t. parts_of form t.1 >>= λ parts. Some (Str t.0 ∷ parts)
+-- at most so many further parts, each behind this symbol or keyword
+abbrev pub further_at : {X : Type 0} → ℕ → Fixed → (List Token → Result (X × List Token) Stop) → List Token → Result (List X × List Token) Stop
+further_at zero f part ts = Ok ([], ts)
+further_at (suc count) f part ts =
+    if begins f ts then (part (behind ts) >>= λ x. with_front (x.0 ∷ []) (further_at count f part x.1)) else Ok ([], ts)
 
-abbrev pub number_and_text : List Part → Option (ℤ × List ℕ)
-number_and_text (Num key ∷ Str text ∷ []) = Some (key, text)
-number_and_text _ = None
+-- parts, with this between them; there are at most as many as tokens
+abbrev pub series_at : {X : Type 0} → Fixed → (List Token → Result (X × List Token) Stop) → List Token → Result (List X × List Token) Stop
+series_at f part ts = part ts >>= λ x. with_front (x.0 ∷ []) (further_at (length x.1) f part x.1)
 
-abbrev pub one_number : List Part → Option ℤ
-one_number (Num key ∷ []) = Some key
-one_number _ = None
+abbrev pub parenthesized_at : {X : Type 0} → (List Token → Result (X × List Token) Stop) → ℕ → List Token → Result (X × List Token) Stop
+parenthesized_at read depth ts = open_at Open depth ts >>= λ inside. read inside >>= λ x. expect Close x.1 >>= λ rest. Ok (x.0, rest)
 
-abbrev pub insert_parts_of : List ℕ → Option (ℤ × List ℕ)
-insert_parts_of bytes = parts_of insert_form bytes >>= number_and_text
+-- NAMES AND LITERALS
 
-abbrev pub select_parts_of : List ℕ → Option ℤ
-select_parts_of bytes = parts_of select_form bytes >>= one_number
+unfoldable pub name_at : List Token → Result (List ℕ × List Token) Stop
+name_at ts = one_at name_of ts
 
--- the statement that the parts make
-abbrev pub statement_from : Option (ℤ × List ℕ) → Option ℤ → Option Statement
-statement_from (Some p) select = Some (Insert p.0 p.1)
-statement_from None (Some key) = Some (Select key)
-statement_from None None = None
+unfoldable pub literal_at : List Token → Result (Literal × List Token) Stop
+literal_at ts = one_at literal_of ts
 
--- the statement that the bytes are a text of, if there is one
-unfoldable pub statement_of : List ℕ → Option Statement
-statement_of bytes = statement_from (insert_parts_of bytes) (select_parts_of bytes)
+-- a name, and whether it may stand before a table's
+abbrev pub head_of : Token → Option (Bool × List ℕ)
+head_of t = option_map (λ n. (is_spider t, n)) (name_of t)
 
--- what parse answers, where that is the statement, unless memory runs out
-abbrev pub Gives : Result Statement ParseFault → Option Statement → Type 0
-Gives (Ok s) found = found ≡ Some s
-Gives (Err (Syntax place)) found = (found ≡ None) × (place ≡ 0)
-Gives (Err NoMemory) found = Unit {0}
+abbrev pub behind_head_at : Bool × List ℕ → List Token → Result (List ℕ × List Token) Stop
+behind_head_at (true, n) ts = if begins Dot ts then name_at (behind ts) else Ok (n, ts)
+behind_head_at (false, n) ts = Ok (n, ts)
+
+unfoldable pub table_at : List Token → Result (List ℕ × List Token) Stop
+table_at ts = one_at head_of ts >>= λ h. behind_head_at h.0 h.1
+
+unfoldable pub column_at : List Token → Result (ColumnName × List Token) Stop
+column_at ts = name_at ts >>= λ n.
+    if begins Dot n.1 then (name_at (behind n.1) >>= λ m. Ok (record { table = Some n.0; column = m.0 }, m.1))
+    else Ok (record { table = None; column = n.0 }, n.1)
+
+abbrev pub some_name_at : List Token → Result (Option (List ℕ) × List Token) Stop
+some_name_at ts = name_at ts >>= λ n. Ok (Some n.0, n.1)
+
+unfoldable pub alias_at : List Token → Result (Option (List ℕ) × List Token) Stop
+alias_at ts = if begins As ts then some_name_at (behind ts) else (if stands name_of ts then some_name_at ts else Ok (None, ts))
+
+-- CONDITIONS
+
+unfoldable pub operand_at : List Token → Result (Operand × List Token) Stop
+operand_at ts =
+    if stands literal_of ts then (literal_at ts >>= λ l. Ok (operands.Literal l.0, l.1))
+    else (column_at ts >>= λ c. Ok (operands.Column c.0, c.1))
+
+unfoldable pub literal_list_at : ℕ → List Token → Result (List Literal × List Token) Stop
+literal_list_at depth ts = parenthesized_at (series_at Comma literal_at) depth ts
+
+unfoldable pub compared_at : Operand → List Token → Result (Cond × List Token) Stop
+compared_at left ts = one_at comparison_of ts >>= λ c. operand_at c.1 >>= λ right. Ok (conds.Compare left c.0 right.0, right.1)
+
+unfoldable pub listed_at : ℕ → ColumnName → Bool → List Token → Result (Cond × List Token) Stop
+listed_at depth c negated ts = expect In ts >>= λ rest. literal_list_at depth rest >>= λ l. Ok (conds.In c negated l.0, l.1)
+
+unfoldable pub ranged_at : ColumnName → Bool → List Token → Result (Cond × List Token) Stop
+ranged_at c negated ts = expect Between ts >>= λ rest. literal_at rest >>= λ low. expect And low.1 >>= λ rest. literal_at rest >>= λ high.
+    Ok (conds.Between c negated low.0 high.0, high.1)
+
+unfoldable pub behind_not_at : ℕ → ColumnName → Bool → List Token → Result (Cond × List Token) Stop
+behind_not_at depth c negated ts = if begins In ts then listed_at depth c negated ts else ranged_at c negated ts
+
+unfoldable pub behind_column_at : ℕ → ColumnName → List Token → Result (Cond × List Token) Stop
+behind_column_at depth c ts =
+    if stands comparison_of ts then compared_at (operands.Column c) ts
+    else (if begins Not ts then behind_not_at depth c true (behind ts) else behind_not_at depth c false ts)
+
+unfoldable pub comparison_at : ℕ → List Token → Result (Cond × List Token) Stop
+comparison_at depth ts =
+    if stands literal_of ts then (literal_at ts >>= λ l. compared_at (operands.Literal l.0) l.1)
+    else (column_at ts >>= λ c. behind_column_at depth c.0 c.1)
+
+abbrev pub conj_by : (List Token → Result (Cond × List Token) Stop) → List Token → Result (Cond × List Token) Stop
+conj_by neg ts = series_at And neg ts >>= λ parts. Ok (joined conds.All parts.0, parts.1)
+
+abbrev pub cond_by : (List Token → Result (Cond × List Token) Stop) → List Token → Result (Cond × List Token) Stop
+cond_by neg ts = series_at Or (conj_by neg) ts >>= λ parts. Ok (joined conds.Any parts.0, parts.1)
+
+-- a condition in parentheses, behind the first
+abbrev pub closed_by : (List Token → Result (Cond × List Token) Stop) → List Token → Result (Cond × List Token) Stop
+closed_by neg ts = cond_by neg ts >>= λ part. expect Close part.1 >>= λ rest. Ok (part.0, rest)
+
+unfoldable pub neg_at : ℕ → List Token → Result (Cond × List Token) Stop
+neg_at zero ts = if begins Not ts then too_deep ts else (if begins Open ts then too_deep ts else comparison_at zero ts)
+neg_at (suc depth) ts =
+    if begins Not ts then (neg_at depth (behind ts) >>= λ part. Ok (conds.Not part.0, part.1))
+    else (if begins Open ts then closed_by (neg_at depth) (behind ts)
+    else comparison_at (suc depth) ts)
+
+unfoldable pub cond_at : ℕ → List Token → Result (Cond × List Token) Stop
+cond_at depth ts = cond_by (neg_at depth) ts
+
+-- STATEMENTS
+
+unfoldable pub column_list_at : ℕ → List Token → Result (Option (List (List ℕ)) × List Token) Stop
+column_list_at depth ts =
+    if begins Open ts then (parenthesized_at (series_at Comma name_at) depth ts >>= λ l. Ok (Some l.0, l.1)) else Ok (None, ts)
+
+unfoldable pub insert_at : ℕ → List Token → Result (Statement × List Token) Stop
+insert_at depth ts =
+    expect Insert ts >>= λ rest. optional_at Into rest >>= λ into. table_at into.1 >>= λ t. column_list_at depth t.1 >>= λ c.
+    expect Values c.1 >>= λ rest. series_at Comma (literal_list_at depth) rest >>= λ r.
+    Ok (statements.Insert (record { table = t.0; columns = c.0; rows = r.0 }), r.1)
+
+unfoldable pub item_at : List Token → Result (Item × List Token) Stop
+item_at ts = column_at ts >>= λ c. alias_at c.1 >>= λ a. Ok (record { column = c.0; alias = a.0 }, a.1)
+
+unfoldable pub select_items_at : List Token → Result (SelectItems × List Token) Stop
+select_items_at ts =
+    if begins Star ts then Ok (items.All, behind ts)
+    else (item_at ts >>= λ i. with_front (i.0 ∷ []) (further_at 899 Comma item_at i.1) >>= λ l. Ok (items.Columns l.0, l.1))
+
+unfoldable pub tab_at : List Token → Result (Tab × List Token) Stop
+tab_at ts = table_at ts >>= λ t. alias_at t.1 >>= λ a. Ok (record { table = t.0; alias = a.0 }, a.1)
+
+unfoldable pub where_at : ℕ → List Token → Result (Option Cond × List Token) Stop
+where_at depth ts = if begins Where ts then (cond_at depth (behind ts) >>= λ c. Ok (Some c.0, c.1)) else Ok (None, ts)
+
+unfoldable pub select_at : ℕ → List Token → Result (Statement × List Token) Stop
+select_at depth ts =
+    expect Select ts >>= λ rest. select_items_at rest >>= λ i. expect From i.1 >>= λ rest. tab_at rest >>= λ t. where_at depth t.1 >>= λ c.
+    Ok (statements.Select (record { items = i.0; tab = t.0; cond = c.0 }), c.1)
+
+unfoldable pub body_at : ℕ → List Token → Result (Statement × List Token) Stop
+body_at depth ts = if begins Insert ts then insert_at depth ts else select_at depth ts
+
+abbrev pub ended : Statement → List Token → Result Statement Stop
+ended s [] = Ok s
+ended s (t ∷ ts) = syntax (t ∷ ts)
+
+-- all of the tokens
+unfoldable pub statement_at : ℕ → List Token → Result Statement Stop
+statement_at depth ts = body_at depth ts >>= λ s. optional_at Semicolon s.1 >>= λ end. ended s.0 end.1

@@ -1,20 +1,31 @@
-//! The text of statements, and what a front asks a backend.
+//! The text of statements: [`parse`] reads one, [`print`] writes the canonical one. [`LinkRequest`] and [`LinkAnswer`] are what goes between a front and a
+//! backend.
 //!
-//! [`parse`] reads the two statements of the first grammar, `INSERT INTO t VALUES (n, x)` and `SELECT v FROM t WHERE k = n`. Keywords
-//! stand in capitals; spaces stand between two tokens, at least one between two words and between a word and a number. A number is
-//! digits with an optional sign, in the range of a BIGINT. A text stands in `'` and has at most 20 characters, each a
-//! byte from 20 to 7E other than `'` and `\`. `parse` answers a statement exactly where the bytes are in that grammar, which
-//! `specs/Grammar.antt` states as a relation between bytes and statements, and then that statement and no other.
+//! A text is read in two layers. Bytes are tokens by `specs/Tokens`: words, names in backquotes, digits, texts and symbols, with blanks and comments between
+//! them, up to the first that is no token. Tokens are a statement by `specs/Grammar`, a relation made rule by rule, apart from the parser. INSERT has an
+//! optional list of columns and rows of literals; SELECT has `*` or at most 900 columns with aliases, one table, and a condition.
 //!
-//! [`push_quoted`] writes a text as a literal, [`LinkRequest`] and [`LinkAnswer`] are what goes between a front and a backend.
+//! `parse` answers a statement exactly where the bytes are UTF-8 and their tokens are one, with at most 64 openings (parentheses and NOTs) inside one
+//! another. Else it tells the first fault: the first byte of the first token that no statement with the same earlier tokens has there, of the first
+//! opening too many, or of the first bytes that aren't UTF-8, whichever comes first, or the text's length where that ends too early.
 #![tactic(auto)]
 
+mod cursor;
+mod fault;
+mod lexer;
 mod link;
-mod print;
+mod parsing;
+mod printing;
 mod reading;
 mod statement;
+mod token;
 
-pub use link::{LinkAnswer, LinkRequest};
-pub use print::push_quoted;
-pub use reading::{ParseFault, parse};
-pub use statement::Statement;
+pub use fault::ParseFault;
+pub use link::{Cell, LinkAnswer, LinkRequest, Scan, ScanItems};
+pub use parsing::{MOST_OPENINGS, parse};
+pub use printing::{print, push_quoted};
+pub use statement::{Insert, Item, ItemList, Names, Select, SelectItems, Statement, Tab, Tuples};
+pub use token::{Fixed, Token};
+
+#[cfg(test)]
+mod tests;

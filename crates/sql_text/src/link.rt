@@ -1,21 +1,76 @@
-use sql_values::{Row, Rows, Text};
+use list_types::{Listed, Text};
+use sql_values::{Cond, Keys, LockMode, Name, Rows, Xid, Xids};
 
 /// What a front asks a backend.
-#[derive(Clone, Debug, PartialEq, Eq, Drop)]
+#[derive(Debug, Drop)]
 pub enum LinkRequest {
-    /// The rows with this key.
-    Scan { key: i64 },
-    /// To have this row, in place of one with its key.
-    Put { row: Row },
+    /// To begin a branch (XA START).
+    Start(Xid),
+    /// To end its work (XA END).
+    End(Xid),
+    /// To prepare it (XA PREPARE).
+    Prepare(Xid),
+    /// To commit it (XA COMMIT).
+    Commit(Xid),
+    /// To roll it back (XA ROLLBACK).
+    Rollback(Xid),
+    /// Which branches are prepared (XA RECOVER).
+    Recover,
+    /// Rows of a table.
+    Scan(Scan),
+    /// To have these rows, each in place of one with its key.
+    Put {
+        table: Name,
+        rows: Rows,
+    },
+    /// To have no rows with these keys.
+    Del {
+        table: Name,
+        key: Name,
+        keys: Keys,
+    },
+    /// To have no rows with keys from `low` to `high`.
+    Clear {
+        table: Name,
+        key: Name,
+        low: i64,
+        high: i64,
+    },
 }
+
+/// The rows of a table for which a condition holds, in the order of a column, at most so many, locked so.
+#[derive(Debug, Drop)]
+pub struct Scan {
+    pub table: Name,
+    pub items: ScanItems,
+    pub cond: Option<Cond>,
+    /// The key column's name; there where the items are all columns.
+    pub order: Option<Name>,
+    pub limit: Option<u64>,
+    pub lock: LockMode,
+}
+
+/// What a scan asks of each row.
+#[derive(Clone, Copy, Debug, PartialEq, Eq)]
+pub enum ScanItems {
+    /// All columns.
+    All,
+}
+
+/// A cell of an answer, NULL or a text.
+pub type Cell = Option<Text>;
 
 /// What a backend answers.
 #[derive(Clone, Debug, PartialEq, Eq, Drop)]
 pub enum LinkAnswer {
-    /// Done; to a put, with the number of rows put.
+    /// Done, with the number of rows that were put or deleted.
     Done(u64),
     /// The rows that were asked for, in the order of their keys.
     Rows(Rows),
+    /// The cells that aggregates gave, a list for each row.
+    Cells(Listed<Listed<Cell>>),
+    /// The prepared branches.
+    Xids(Xids),
     /// Refused, with the error's number and text. Nothing changed.
     Refused { number: u16, message: Text },
 }

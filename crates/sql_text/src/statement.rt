@@ -1,10 +1,59 @@
-use sql_values::Text;
+use list_types::Listed;
+use sql_values::{ColumnName, Cond, Literals, Name};
 
 /// A statement of a client.
-#[derive(Clone, Debug, PartialEq, Eq, Drop)]
+#[derive(Debug, Drop)]
 pub enum Statement {
-    /// `INSERT INTO t VALUES (key, 'text')`.
-    Insert { key: i64, text: Text },
-    /// `SELECT v FROM t WHERE k = key`.
-    Select { key: i64 },
+    /// INSERT.
+    Insert(Insert),
+    /// SELECT.
+    Select(Select),
+}
+
+/// Names of columns, in order.
+pub type Names = Listed<Name>;
+
+/// Rows as a statement has them, in order.
+pub type Tuples = Listed<Literals>;
+
+/// INSERT: rows for a table, with the columns that they name or, without a list, all of the table's.
+#[derive(Clone, Debug, PartialEq, Eq, Drop)]
+pub struct Insert {
+    pub table: Name,
+    pub columns: Option<Names>,
+    pub rows: Tuples,
+}
+
+/// SELECT: items of the rows of a table for which a condition holds.
+#[derive(Debug, Drop)]
+pub struct Select {
+    pub items: SelectItems,
+    pub tab: Tab,
+    pub cond: Option<Cond>,
+}
+
+/// What a SELECT asks of each row.
+#[derive(Clone, Debug, PartialEq, Eq, Drop)]
+pub enum SelectItems {
+    /// All columns (`*`).
+    All,
+    /// These columns.
+    Columns(ItemList),
+}
+
+/// A column that a SELECT asks for, and the name that the answer gives it.
+#[derive(Clone, Debug, PartialEq, Eq, Drop)]
+pub struct Item {
+    pub column: ColumnName,
+    pub alias: Option<Name>,
+}
+
+/// Items, in order.
+pub type ItemList = Listed<Item>;
+
+/// A table that a SELECT reads, and the name by which the statement knows it.
+#[derive(Clone, Debug, PartialEq, Eq, Drop)]
+pub struct Tab {
+    pub table: Name,
+    pub alias: Option<Name>,
 }

@@ -2,7 +2,7 @@ use Rattle.std.proofs.Common.{refl}
 use Rattle.std.specs.Str.{is_utf8, chars}
 use lib.Utf8.{encode}
 use Rattle.std.specs.Fmt.{digits}
-use Rattle.sql_text.specs.Reading.{statement_of}
+use Rattle.fixed_text.specs.Reading.{statement_of}
 use Rattle.spider_cli.specs.World.{client, turns}
 use Rattle.spider_cli.specs.Transcript.{output_text, end_text}
 use Rattle.spider_cli.specs.Schedule.{lines_of, line_of}

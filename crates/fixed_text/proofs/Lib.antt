@@ -1,0 +1,5 @@
+pub mod Digits
+pub mod Forms
+pub mod PlainTexts
+pub mod Statements
+pub mod Words

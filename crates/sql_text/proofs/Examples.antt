@@ -1,0 +1,68 @@
+-- The definitions on examples.
+use Rattle.std.proofs.Common.{◌≡◌, ℕ, List, [], ◌∷◌, Some, None, Ok, Err, pos, negsuc, refl, codes, true}
+use Rattle.sql_text.specs.declared.token.Fixed.TheVariants.{From, Select, Comma, Dot, NotEqual, Less, AtMost}
+use Rattle.sql_text.specs.declared.token.Token.TheVariants as tokens
+use Rattle.sql_values.specs.declared.literal.Literal.TheVariants as literals
+use Rattle.sql_values.specs.declared.tree.ColumnName.{ColumnName}
+use Rattle.sql_values.specs.declared.tree.Comparison.TheVariants as comparisons
+use Rattle.sql_values.specs.declared.tree.Operand.TheVariants as operands
+use Rattle.sql_values.specs.declared.tree.Cond.{Cond}
+use Rattle.sql_values.specs.declared.tree.Cond.TheVariants as conds
+use Rattle.sql_text.specs.declared.statement.Statement.TheVariants as statements
+use Rattle.sql_text.specs.declared.statement.SelectItems.TheVariants as items
+use Rattle.sql_text.specs.Tokens.{placed_tokens, tokens_of}
+use Rattle.sql_text.specs.Reading.{statement_at, body_at, insert_at, expect, optional_at, table_at, column_list_at, literal_list_at, open_at, literal_at, name_at, select_at, select_items_at, item_at, column_at, alias_at, tab_at, where_at, cond_at, neg_at, comparison_at, behind_column_at, compared_at, operand_at, behind_not_at, ranged_at}
+
+words : placed_tokens (codes "Select a_1, `b`.c FROM spider.t") ≡
+    ((tokens.Fixed Select, 31) ∷ (tokens.Bare (codes "a_1"), 24) ∷ (tokens.Fixed Comma, 21) ∷ (tokens.Quoted (codes "b"), 19) ∷ (tokens.Fixed Dot, 16) ∷ (tokens.Bare (codes "c"), 15)
+    ∷ (tokens.Fixed From, 13) ∷ (tokens.Bare (codes "spider"), 8) ∷ (tokens.Fixed Dot, 2) ∷ (tokens.Bare (codes "t"), 1) ∷ [])
+unfolding placed_tokens
+words = refl
+
+numbers : tokens_of (codes "-1+2 3 <>!=<=<") ≡
+    (tokens.Signed (negsuc 0) ∷ tokens.Signed (pos 2) ∷ tokens.Digits (pos 3) ∷ tokens.Fixed NotEqual ∷ tokens.Fixed NotEqual ∷ tokens.Fixed AtMost ∷ tokens.Fixed Less ∷ [])
+unfolding tokens_of placed_tokens
+numbers = refl
+
+touching : placed_tokens (codes "1/* c */a 1a") ≡ ((tokens.Digits (pos 1), 12) ∷ (tokens.Bare (codes "a"), 4) ∷ (tokens.Digits (pos 1), 2) ∷ (tokens.Bad, 1) ∷ [])
+unfolding placed_tokens
+touching = refl
+
+version_comment : placed_tokens (codes "a /*!b*/") ≡ ((tokens.Bare (codes "a"), 8) ∷ (tokens.Bad, 6) ∷ [])
+unfolding placed_tokens
+version_comment = refl
+
+bare : List ℕ → ColumnName
+bare n = record { table = None; column = n }
+
+equal_one : List ℕ → Cond
+equal_one n = conds.Compare (operands.Column (bare n)) comparisons.Equal (operands.Literal (literals.Number (pos 1)))
+
+-- NOT binds tighter than AND, and that tighter than OR
+precedence : cond_at 2 (tokens_of (codes "a = 1 OR NOT b = 1 AND (c = 1 OR a = 1)")) ≡
+    Ok (conds.Any (equal_one (codes "a") ∷ conds.All (conds.Not (equal_one (codes "b")) ∷ conds.Any (equal_one (codes "c") ∷ equal_one (codes "a") ∷ []) ∷ []) ∷ []), [])
+unfolding bare equal_one tokens_of placed_tokens cond_at neg_at comparison_at behind_column_at compared_at operand_at expect column_at name_at literal_at
+precedence = refl
+
+-- two openings inside one another are one too many
+too_deep_at : cond_at 1 (tokens_of (codes "(a = 1 OR NOT b = 1)")) ≡ Err (record { deep = true; left = 5 })
+unfolding bare equal_one tokens_of placed_tokens cond_at neg_at comparison_at behind_column_at compared_at operand_at expect column_at name_at literal_at
+too_deep_at = refl
+
+inserted : statement_at 1 (tokens_of (codes "insert t (k, v) values (1, +3), (2, NULL);")) ≡
+    Ok (statements.Insert (record {
+      table = codes "t";
+      columns = Some (codes "k" ∷ codes "v" ∷ []);
+      rows = (literals.Number (pos 1) ∷ literals.Number (pos 3) ∷ []) ∷ (literals.Number (pos 2) ∷ literals.Null ∷ []) ∷ [];
+    }))
+unfolding tokens_of placed_tokens statement_at body_at insert_at expect optional_at table_at column_list_at literal_list_at open_at literal_at name_at
+inserted = refl
+
+selected : statement_at 0 (tokens_of (codes "SELECT a AS x, t.b FROM spider.t u WHERE a NOT BETWEEN -1 AND 2")) ≡
+    Ok (statements.Select (record {
+      items = items.Columns (record { column = bare (codes "a"); alias = Some (codes "x") } ∷ record { column = record { table = Some (codes "t"); column = codes "b" }; alias = None } ∷ []);
+      tab = record { table = codes "t"; alias = Some (codes "u") };
+      cond = Some (conds.Between (bare (codes "a")) true (literals.Number (negsuc 0)) (literals.Number (pos 2)));
+    }))
+unfolding bare tokens_of placed_tokens statement_at body_at select_at select_items_at item_at column_at alias_at tab_at where_at cond_at neg_at comparison_at behind_column_at behind_not_at ranged_at expect optional_at table_at literal_at name_at
+selected = refl

@@ -1,0 +1,75 @@
+-- What a text is parsed as.
+use Rattle.std.specs.Prelude.{◌≡◌, ℕ, ◌-◌, ◌<◌, ◌≤◌, ◌⊎◌, Bool, true, false, List, map, length, slice_index, Option, Some, None, Result, Ok, Err, nat_lt, if◌then◌else◌}
+use Rattle.std.specs.Str.{IsUtf8, is_utf8}
+use Rattle.std.specs.Str.Lossy.{utf8_valid_len}
+use Rattle.sql_text.specs.declared.statement.Statement.{Statement}
+use Rattle.sql_text.specs.declared.fault.Stop.{Stop}
+use Rattle.sql_text.specs.declared.fault.ParseFault.{ParseFault}
+use Rattle.sql_text.specs.declared.fault.ParseFault.TheVariants.{Syntax, Deep, NoMemory}
+use Rattle.sql_text.specs.Tokens.{Placed, placed_tokens, tokens_of}
+use Rattle.sql_text.specs.Grammar.{IsStatement, most_openings}
+use Rattle.sql_text.specs.Reading.{statement_at}
+use Rattle.sql_text.specs.Places.{IsFirstBad}
+
+-- for each token, how many bytes are left from its first one on
+unfoldable pub lefts_of : List ℕ → List ℕ
+lefts_of text = map (λ (p : Placed). p.1) (placed_tokens text)
+
+-- the byte of the token that stands so many before the end, or the text's length
+abbrev pub place_of : List ℕ → ℕ → ℕ
+place_of text left = length text - slice_index (lefts_of text) (length (lefts_of text) - left)
+
+-- the first byte that isn't UTF-8
+abbrev pub wrong_byte : List ℕ → Option ℕ
+wrong_byte text = if is_utf8 text then None else Some (utf8_valid_len text)
+
+-- the first of both faults
+abbrev pub token_fault : List ℕ → Stop → ParseFault
+token_fault text stop = if stop.deep then Deep (place_of text stop.left) else Syntax (place_of text stop.left)
+
+abbrev pub first_fault : List ℕ → Option ℕ → Stop → ParseFault
+first_fault text None stop = token_fault text stop
+first_fault text (Some wrong) stop = if nat_lt (place_of text stop.left) wrong then token_fault text stop else Syntax wrong
+
+abbrev pub with_bytes : List ℕ → Option ℕ → Result Statement Stop → Result Statement ParseFault
+with_bytes text wrong (Err stop) = Err (first_fault text wrong stop)
+with_bytes text None (Ok s) = Ok s
+with_bytes text (Some wrong) (Ok s) = Err (Syntax wrong)
+
+-- the statement of a text, or its first fault
+unfoldable pub parsed : List ℕ → Result Statement ParseFault
+parsed text = with_bytes text (wrong_byte text) (statement_at most_openings (tokens_of text))
+
+-- what parse answers is what the text is parsed as, unless memory runs out
+abbrev pub IsParsed : Result Statement ParseFault → Result Statement ParseFault → Type 0
+IsParsed (Err NoMemory) read = Unit {0}
+IsParsed (Err (Syntax place)) read = read ≡ Err (Syntax place)
+IsParsed (Err (Deep place)) read = read ≡ Err (Deep place)
+IsParsed (Ok s) read = read ≡ Ok s
+
+-- The place is the first byte of a token, or the text's length. It is the first token of the text that no statement with the same earlier tokens has there, or
+-- an opening too many, and no byte before it isn't UTF-8.
+pub record IsBadToken (deep : Bool) (text : List ℕ) (place : ℕ) : Type 0 where
+  pub left : ℕ
+  pub place_is : place ≡ place_of text left
+  pub first : IsFirstBad most_openings deep (tokens_of text) left
+  pub bytes : IsUtf8 text ⊎ (place < utf8_valid_len text)
+
+-- the first bad token begins no earlier than there
+pub record IsBehind (text : List ℕ) (place : ℕ) : Type 0 where
+  pub deep : Bool
+  pub left : ℕ
+  pub first : IsFirstBad most_openings deep (tokens_of text) left
+  pub behind : place ≤ place_of text left
+
+-- The place is the first byte of the text that isn't UTF-8, and no token that begins before it is a bad one.
+pub record IsBadByte (text : List ℕ) (place : ℕ) : Type 0 where
+  pub no_text : IsUtf8 text → ⊥
+  pub place_is : place ≡ utf8_valid_len text
+  pub before : ((s : Statement) × IsStatement (tokens_of text) s) ⊎ IsBehind text place
+
+-- why a text is refused
+abbrev pub IsRefused : List ℕ → ParseFault → Type 0
+IsRefused text NoMemory = Unit {0}
+IsRefused text (Syntax place) = IsBadToken false text place ⊎ IsBadByte text place
+IsRefused text (Deep place) = IsBadToken true text place

@@ -1,0 +1,129 @@
+-- The canonical text of a statement.
+use Rattle.std.specs.Prelude.{ℕ, ◌++◌, ◌==◌, Bool, true, false, List, [], ◌∷◌, map, Option, Some, None, if◌then◌else◌, nat_lt, codes}
+use Rattle.std.specs.List.{flat_map}
+use Rattle.std.specs.Fmt.{signed_decimal}
+use Rattle.sql_values.specs.declared.literal.Literal.{Literal}
+use Rattle.sql_values.specs.declared.literal.Literal.TheVariants as literals
+use Rattle.sql_values.specs.declared.tree.ColumnName.{ColumnName}
+use Rattle.sql_values.specs.declared.tree.Comparison.{Comparison}
+use Rattle.sql_values.specs.declared.tree.Comparison.TheVariants.{Equal, NotEqual, Less, AtMost, Greater, AtLeast}
+use Rattle.sql_values.specs.declared.tree.Operand.{Operand}
+use Rattle.sql_values.specs.declared.tree.Operand.TheVariants as operands
+use Rattle.sql_values.specs.declared.tree.Cond.{Cond, Cond-F, fold-Cond}
+use Rattle.sql_values.specs.declared.tree.Cond.TheOpen.{All, Any, Not, Compare, In, Between}
+use Rattle.sql_text.specs.declared.statement.Statement.{Statement}
+use Rattle.sql_text.specs.declared.statement.Statement.TheVariants as statements
+use Rattle.sql_text.specs.declared.statement.SelectItems.{SelectItems}
+use Rattle.sql_text.specs.declared.statement.SelectItems.TheVariants as items
+use Rattle.sql_text.specs.declared.statement.Item.{Item}
+
+-- a byte of a text, as it stands in a literal
+abbrev pub escaped : ℕ → List ℕ
+escaped b =
+    if b == 0 then 92 ∷ 48 ∷ []
+    else (if b == 10 then 92 ∷ 110 ∷ []
+    else (if b == 13 then 92 ∷ 114 ∷ []
+    else (if b == 26 then 92 ∷ 90 ∷ []
+    else (if b == 39 then 39 ∷ 39 ∷ []
+    else (if b == 92 then 92 ∷ 92 ∷ []
+    else b ∷ [])))))
+
+-- a text as a literal
+abbrev pub quoted : List ℕ → List ℕ
+quoted text = 39 ∷ (flat_map escaped text ++ (39 ∷ []))
+
+abbrev pub literal_text : Literal → List ℕ
+literal_text (literals.Number n) = signed_decimal n
+literal_text (literals.Text t) = quoted t
+literal_text literals.Null = codes "NULL"
+
+-- a name in backquotes
+abbrev pub name_text : List ℕ → List ℕ
+name_text n = 96 ∷ (n ++ (96 ∷ []))
+
+-- texts with a separator between them
+abbrev pub joined_text : List ℕ → List (List ℕ) → List ℕ
+joined_text separator [] = []
+joined_text separator (x ∷ xs) = x ++ flat_map (λ y. separator ++ y) xs
+
+abbrev pub qualifier_text : Option (List ℕ) → List ℕ
+qualifier_text None = []
+qualifier_text (Some t) = name_text t ++ (46 ∷ [])
+
+abbrev pub column_text : ColumnName → List ℕ
+column_text c = qualifier_text c.table ++ name_text c.column
+
+abbrev pub operand_text : Operand → List ℕ
+operand_text (operands.Column c) = column_text c
+operand_text (operands.Literal l) = literal_text l
+
+abbrev pub comparison_text : Comparison → List ℕ
+comparison_text Equal = codes " = "
+comparison_text NotEqual = codes " <> "
+comparison_text Less = codes " < "
+comparison_text AtMost = codes " <= "
+comparison_text Greater = codes " > "
+comparison_text AtLeast = codes " >= "
+
+abbrev pub negation_text : Bool → List ℕ
+negation_text true = codes " NOT"
+negation_text false = []
+
+-- literals with commas between them
+abbrev pub literals_text : List Literal → List ℕ
+literals_text ls = joined_text (codes ",") (map literal_text ls)
+
+-- how loosely a condition binds, and its text: 0 a test or a NOT, 1 parts joined by AND, 2 parts joined by OR
+abbrev pub Shown : Type 0
+Shown = ℕ × List ℕ
+
+abbrev pub opening : Bool → List ℕ
+opening enclosed = if enclosed then 40 ∷ [] else []
+
+abbrev pub closing : Bool → List ℕ
+closing enclosed = if enclosed then 41 ∷ [] else []
+
+-- its text where only what binds at least so tightly stands without parentheses
+abbrev pub at_level : ℕ → Shown → List ℕ
+at_level level shown = opening (nat_lt level shown.0) ++ (shown.1 ++ closing (nat_lt level shown.0))
+
+abbrev pub layer_text : Cond-F Shown → Shown
+layer_text (All parts) = (1, joined_text (codes " AND ") (map (at_level 0) parts))
+layer_text (Any parts) = (2, joined_text (codes " OR ") (map (at_level 1) parts))
+layer_text (Not part) = (0, codes "NOT " ++ at_level 0 part)
+layer_text (Compare left comparison right) = (0, operand_text left ++ (comparison_text comparison ++ operand_text right))
+layer_text (In c negated list) = (0, column_text c ++ (negation_text negated ++ (codes " IN (" ++ (literals_text list ++ codes ")"))))
+layer_text (Between c negated low high) = (0, column_text c ++ (negation_text negated ++ (codes " BETWEEN " ++ (literal_text low ++ (codes " AND " ++ literal_text high)))))
+
+abbrev pub shown_cond : Cond → Shown
+shown_cond = fold-Cond Shown layer_text
+
+abbrev pub cond_text : Cond → List ℕ
+cond_text c = at_level 2 (shown_cond c)
+
+abbrev pub alias_text : Option (List ℕ) → List ℕ
+alias_text None = []
+alias_text (Some n) = codes " AS " ++ name_text n
+
+abbrev pub item_text : Item → List ℕ
+item_text i = column_text i.column ++ alias_text i.alias
+
+abbrev pub items_text : SelectItems → List ℕ
+items_text items.All = codes "*"
+items_text (items.Columns l) = joined_text (codes ", ") (map item_text l)
+
+abbrev pub where_text : Option Cond → List ℕ
+where_text None = []
+where_text (Some c) = codes " WHERE " ++ cond_text c
+
+abbrev pub columns_text : Option (List (List ℕ)) → List ℕ
+columns_text None = []
+columns_text (Some l) = codes " (" ++ (joined_text (codes ", ") (map name_text l) ++ codes ")")
+
+abbrev pub tuple_text : List Literal → List ℕ
+tuple_text ls = codes "(" ++ (literals_text ls ++ codes ")")
+
+-- the canonical text
+unfoldable pub printed : Statement → List ℕ
+printed (statements.Insert i) = codes "INSERT INTO " ++ (name_text i.table ++ (columns_text i.columns ++ (codes " VALUES " ++ joined_text (codes ",") (map tuple_text i.rows))))
+printed (statements.Select s) = codes "SELECT " ++ (items_text s.items ++ (codes " FROM " ++ (name_text s.tab.table ++ (alias_text s.tab.alias ++ where_text s.cond))))

@@ -1,0 +1,237 @@
+-- The tokens of a text.
+use Rattle.std.specs.Prelude.{ℕ, zero, suc, ◌+◌, ◌-◌, ◌*◌, ◌^◌, ◌==◌, ◌&&◌, ◌||◌, Bool, true, false, pos, neg_ℤ, List, [], ◌∷◌, ◌++◌, length, map, Option, Some, None, if◌then◌else◌, nat_lt, nat_le, nat_eq, codes}
+use Rattle.std.specs.Cmp.Lexicographic.{pointwise}
+use Rattle.std.specs.Char.{is_ascii_digit, to_ascii_uppercase}
+use Rattle.std.specs.Str.Lossy.{utf8_lossy}
+use Rattle.sql_values.specs.Names.{is_name, begins_name, continues_name}
+use Rattle.sql_text.specs.declared.token.Fixed.{Fixed}
+use Rattle.sql_text.specs.declared.token.Fixed.TheVariants.{And, As, Between, From, In, Insert, Into, Not, Null, Or, Select, Values, Where, Open, Close, Comma, Dot, Star, Semicolon, Equal, NotEqual, Less, AtMost, Greater, AtLeast}
+use Rattle.sql_text.specs.declared.token.Token.{Token}
+use Rattle.sql_text.specs.declared.token.Token.TheVariants as tokens
+
+-- WORDS
+
+-- the bytes are this word, in capitals or small letters
+abbrev pub is_word : List ℕ → List ℕ → Bool
+is_word word bytes = pointwise nat_eq (map to_ascii_uppercase bytes) word
+
+abbrev pub keyword_of : List ℕ → Option Fixed
+keyword_of bytes =
+    if is_word (codes "AND") bytes then Some And
+    else (if is_word (codes "AS") bytes then Some As
+    else (if is_word (codes "BETWEEN") bytes then Some Between
+    else (if is_word (codes "FROM") bytes then Some From
+    else (if is_word (codes "IN") bytes then Some In
+    else (if is_word (codes "INSERT") bytes then Some Insert
+    else (if is_word (codes "INTO") bytes then Some Into
+    else (if is_word (codes "NOT") bytes then Some Not
+    else (if is_word (codes "NULL") bytes then Some Null
+    else (if is_word (codes "OR") bytes then Some Or
+    else (if is_word (codes "SELECT") bytes then Some Select
+    else (if is_word (codes "VALUES") bytes then Some Values
+    else (if is_word (codes "WHERE") bytes then Some Where
+    else None))))))))))))
+
+-- a keyword, or a name of at most 64 bytes
+abbrev pub word_token : Option Fixed → List ℕ → Token
+word_token (Some f) bytes = tokens.Fixed f
+word_token None bytes = if is_name bytes then tokens.Bare bytes else tokens.Bad
+
+-- the bytes at the front that pass a test, and the others
+abbrev pub run : (ℕ → Bool) → List ℕ → List ℕ × List ℕ
+run passes [] = ([], [])
+run passes (b ∷ bytes) = if passes b then (b ∷ (run passes bytes).0, (run passes bytes).1) else ([], b ∷ bytes)
+
+abbrev pub word_at : List ℕ → Token × List ℕ
+word_at bytes = let r = run continues_name bytes in (word_token (keyword_of r.0) r.0, r.1)
+
+-- NUMBERS
+
+-- the number that decimal digits stand for, after digits that stand for n
+abbrev pub value_after : ℕ → List ℕ → ℕ
+value_after n [] = n
+value_after n (d ∷ digits) = value_after (10 * n + (d - 48)) digits
+
+-- a number of 128 bits with its sign
+abbrev pub digits_token : ℕ → Token
+digits_token n = if nat_lt n (2 ^ 127) then tokens.Digits (pos n) else tokens.Bad
+
+abbrev pub signed_token : Bool → ℕ → Token
+signed_token true n = if nat_le n (2 ^ 127) then tokens.Signed (neg_ℤ (pos n)) else tokens.Bad
+signed_token false n = if nat_lt n (2 ^ 127) then tokens.Signed (pos n) else tokens.Bad
+
+abbrev pub digits_at : List ℕ → Token × List ℕ
+digits_at bytes = let r = run is_ascii_digit bytes in (digits_token (value_after 0 r.0), r.1)
+
+-- a sign, with what stands behind it: digits, directly, or it is no token
+abbrev pub signed_at : Bool → List ℕ → Token × List ℕ
+signed_at minus [] = (tokens.Bad, [])
+signed_at minus (b ∷ bytes) =
+    if is_ascii_digit b then (let r = run is_ascii_digit (b ∷ bytes) in (signed_token minus (value_after 0 r.0), r.1))
+    else (tokens.Bad, bytes)
+
+-- TEXTS
+
+-- what has been read of a text: plain bytes, or a quote that may close it, or a backslash
+pub data Mode : Type 0 where
+  Plain : Mode
+  Quote : Mode
+  Escape : Mode
+
+-- the byte that a backslash and this byte stand for
+abbrev pub escape_of : ℕ → Option ℕ
+escape_of b =
+    if b == 48 then Some 0
+    else (if b == 39 then Some 39
+    else (if b == 34 then Some 34
+    else (if b == 98 then Some 8
+    else (if b == 110 then Some 10
+    else (if b == 114 then Some 13
+    else (if b == 116 then Some 9
+    else (if b == 90 then Some 26
+    else (if b == 92 then Some 92
+    else None))))))))
+
+-- with this byte in front
+abbrev pub onto : ℕ → Option (List ℕ × List ℕ) → Option (List ℕ × List ℕ)
+onto b None = None
+onto b (Some r) = Some (b ∷ r.0, r.1)
+
+abbrev pub onto_some : Option ℕ → Option (List ℕ × List ℕ) → Option (List ℕ × List ℕ)
+onto_some None r = None
+onto_some (Some b) r = onto b r
+
+-- the text up to the quote that closes it, which isn't doubled and stands behind no backslash, and what stands behind that
+abbrev pub text_from : ℕ → Mode → List ℕ → Option (List ℕ × List ℕ)
+text_from quote Plain [] = None
+text_from quote Plain (b ∷ bytes) =
+    if b == quote then text_from quote Quote bytes
+    else (if b == 92 then text_from quote Escape bytes else onto b (text_from quote Plain bytes))
+text_from quote Quote [] = Some ([], [])
+text_from quote Quote (b ∷ bytes) = if b == quote then onto b (text_from quote Plain bytes) else Some ([], b ∷ bytes)
+text_from quote Escape [] = None
+text_from quote Escape (b ∷ bytes) = onto_some (escape_of b) (text_from quote Plain bytes)
+
+-- A text is UTF-8; one that isn't stands in bytes that are refused anyway, and counts with each wrong byte replaced.
+abbrev pub text_at : Option (List ℕ × List ℕ) → Token × List ℕ
+text_at None = (tokens.Bad, [])
+text_at (Some r) = (tokens.Text (utf8_lossy r.0), r.1)
+
+-- NAMES IN BACKQUOTES
+
+-- the bytes up to this one, and what stands behind it
+abbrev pub up_to : ℕ → List ℕ → Option (List ℕ × List ℕ)
+up_to stop [] = None
+up_to stop (b ∷ bytes) = if b == stop then Some ([], bytes) else onto b (up_to stop bytes)
+
+abbrev pub quoted_at : Option (List ℕ × List ℕ) → Token × List ℕ
+quoted_at None = (tokens.Bad, [])
+quoted_at (Some r) = (if is_name r.0 then tokens.Quoted r.0 else tokens.Bad, r.1)
+
+-- SYMBOLS
+
+abbrev pub starts : ℕ → List ℕ → Bool
+starts b [] = false
+starts b (c ∷ bytes) = c == b
+
+abbrev pub rest_of : List ℕ → List ℕ
+rest_of [] = []
+rest_of (b ∷ bytes) = bytes
+
+-- a symbol that begins with this byte, before these
+abbrev pub symbol_at : ℕ → List ℕ → Token × List ℕ
+symbol_at b bytes =
+    if b == 40 then (tokens.Fixed Open, bytes)
+    else (if b == 41 then (tokens.Fixed Close, bytes)
+    else (if b == 44 then (tokens.Fixed Comma, bytes)
+    else (if b == 46 then (tokens.Fixed Dot, bytes)
+    else (if b == 42 then (tokens.Fixed Star, bytes)
+    else (if b == 59 then (tokens.Fixed Semicolon, bytes)
+    else (if b == 61 then (tokens.Fixed Equal, bytes)
+    else (if b == 60 then (if starts 61 bytes then (tokens.Fixed AtMost, rest_of bytes) else (if starts 62 bytes then (tokens.Fixed NotEqual, rest_of bytes) else (tokens.Fixed Less, bytes)))
+    else (if b == 62 then (if starts 61 bytes then (tokens.Fixed AtLeast, rest_of bytes) else (tokens.Fixed Greater, bytes))
+    else (if b == 33 && starts 61 bytes then (tokens.Fixed NotEqual, rest_of bytes)
+    else (tokens.Bad, bytes))))))))))
+
+-- BLANKS
+
+-- space, tab, CR or LF
+abbrev pub is_blank : ℕ → Bool
+is_blank b = b == 32 || (b == 9 || (b == 13 || b == 10))
+
+-- what stands behind the first `*/`, or behind a first `/` where a `*` stands before these bytes
+abbrev pub comment_end : Bool → List ℕ → Option (List ℕ)
+comment_end star [] = None
+comment_end star (b ∷ bytes) = if star && b == 47 then Some bytes else comment_end (b == 42) bytes
+
+-- behind `/*`: no comment begins with `/*!`
+abbrev pub comment_at : List ℕ → Option (List ℕ)
+comment_at bytes = if starts 33 bytes then None else comment_end false bytes
+
+-- TOKENS
+
+-- a token at the front, or nothing where blanks stand there, and what is behind it
+abbrev pub skipped : Option (List ℕ) → Option Token × List ℕ
+skipped None = (Some tokens.Bad, [])
+skipped (Some rest) = (None, rest)
+
+abbrev pub seen : Token × List ℕ → Option Token × List ℕ
+seen r = (Some r.0, r.1)
+
+-- a token that is no word and begins with this byte
+abbrev pub other_at : ℕ → List ℕ → Token × List ℕ
+other_at b bytes =
+    if b == 43 then signed_at false bytes
+    else (if b == 45 then signed_at true bytes
+    else (if b == 39 || b == 34 then text_at (text_from b Plain bytes)
+    else (if b == 96 then quoted_at (up_to 96 bytes)
+    else symbol_at b bytes)))
+
+abbrev pub lexeme_at : List ℕ → Option Token × List ℕ
+lexeme_at [] = (None, [])
+lexeme_at (b ∷ bytes) =
+    if is_blank b then (None, bytes)
+    else (if b == 47 && starts 42 bytes then skipped (comment_at (rest_of bytes))
+    else (if begins_name b then seen (word_at (b ∷ bytes))
+    else (if is_ascii_digit b then seen (digits_at (b ∷ bytes))
+    else seen (other_at b bytes))))
+
+abbrev pub is_bad : Token → Bool
+is_bad tokens.Bad = true
+is_bad _ = false
+
+-- a token, and how many bytes are left from its first one on
+abbrev pub Placed : Type 0
+Placed = Token × ℕ
+
+-- what one step finds, and, unless it is the last one, whether a word or digits stand directly before what is left, and that
+abbrev pub Step : Type 0
+Step = List Placed × Option (Bool × List ℕ)
+
+abbrev pub placed : ℕ → Bool → Option Token × List ℕ → Step
+placed left touching (None, rest) = ([], Some (touching, rest))
+placed left touching (Some token, rest) = ((token, left) ∷ [], if is_bad token then None else Some (touching, rest))
+
+-- between two tokens that are each a word or digits stands a blank
+abbrev pub step_at : Bool → List ℕ → Step
+step_at touching [] = ([], None)
+step_at touching (b ∷ bytes) =
+    if touching && continues_name b then ((tokens.Bad, length (b ∷ bytes)) ∷ [], None)
+    else placed (length (b ∷ bytes)) (continues_name b) (lexeme_at (b ∷ bytes))
+
+abbrev pub onward : (Bool → List ℕ → List Placed) → Step → List Placed
+onward again (found, None) = found
+onward again (found, Some next) = found ++ again next.0 next.1
+
+-- the tokens of the bytes, in so many steps; each takes a byte at least
+abbrev pub tokens_within : ℕ → Bool → List ℕ → List Placed
+tokens_within zero touching bytes = []
+tokens_within (suc count) touching bytes = onward (tokens_within count) (step_at touching bytes)
+
+-- the tokens of a text, up to the first that is none
+unfoldable pub placed_tokens : List ℕ → List Placed
+placed_tokens text = tokens_within (length text) false text
+
+-- without their places
+unfoldable pub tokens_of : List ℕ → List Token
+tokens_of text = map (λ (p : Placed). p.0) (placed_tokens text)

@@ -1,0 +1,110 @@
+//! SELECT.
+ghost use Rattle.std.specs.Prelude.{◌≡◌, ◌++◌, [], ◌∷◌, length};
+ghost use Rattle.sql_text.specs.declared.token.Fixed.TheVariants as fixed;
+ghost use Rattle.sql_text.specs.Reading.{Gives, item_at, select_items_at, tab_at, where_at, select_at, further_at, with_front};
+
+use crate::cursor::{begins, behind, expect};
+use crate::fault::ReadError;
+use crate::reading::conditions::cond;
+use crate::reading::names::{alias, column, table};
+use crate::statement::{Item, Select, SelectItems, Statement, Tab};
+use crate::token::{Fixed, Token};
+use list_types::Listed;
+use sql_values::Cond;
+use std::alloc::Global;
+
+/// The most items of a SELECT behind the first one.
+const MOST_FURTHER_ITEMS: usize = 899;
+
+/// A column with its alias.
+#[tactic(auto, unfolding(crate::specs::Reading::item_at))]
+fn item(tokens: &[Token]) -> Result<(Item, &[Token]), ReadError>
+    ensures { Gives (λ x. (x.0, x.1.now)) result (item_at tokens.now) }
+{
+    let (column, rest) = column(tokens)?;
+    let (alias, rest) = alias(rest)?;
+    Ok((Item { column, alias }, rest))
+}
+
+/// Further items, each behind a comma, behind those that are there.
+fn further_items(
+    most: usize,
+    first: Vec<Item>,
+    tokens: &[Token],
+) -> Result<(Vec<Item>, &[Token]), ReadError>
+    ensures { Gives (λ x. (x.0.items, x.1.now)) result (with_front first.items (further_at most fixed.Comma item_at tokens.now)) }
+{
+    let mut items = first;
+    let mut rest = tokens;
+    for _ in 0..most {
+        if !begins(Fixed::Comma, rest) {
+            return Ok((items, rest));
+        }
+        match item(behind(rest)) {
+            Ok((part, more)) => {
+                items.push(part)?;
+                rest = more;
+            }
+            Err(error) => return Err(error),
+        }
+    }
+    Ok((items, rest))
+}
+
+/// The items of a SELECT.
+#[tactic(auto, unfolding(crate::specs::Reading::select_items_at))]
+fn select_items(alloc: Global, tokens: &[Token]) -> Result<(SelectItems, &[Token]), ReadError>
+    ensures { Gives (λ x. (x.0, x.1.now)) result (select_items_at tokens.now) }
+{
+    if begins(Fixed::Star, tokens) {
+        return Ok((SelectItems::All, behind(tokens)));
+    }
+    let (first, rest) = item(tokens)?;
+    let first = vec![in alloc; first]?;
+    let (items, rest) = further_items(MOST_FURTHER_ITEMS, first, rest)?;
+    Ok((SelectItems::Columns(Listed::from_vec(items)), rest))
+}
+
+/// A table with its alias.
+#[tactic(auto, unfolding(crate::specs::Reading::tab_at))]
+fn tab(tokens: &[Token]) -> Result<(Tab, &[Token]), ReadError>
+    ensures { Gives (λ x. (x.0, x.1.now)) result (tab_at tokens.now) }
+{
+    let (table, rest) = table(tokens)?;
+    let (alias, rest) = alias(rest)?;
+    Ok((Tab { table, alias }, rest))
+}
+
+/// WHERE and its condition, or none.
+#[tactic(auto, unfolding(crate::specs::Reading::where_at))]
+fn where_cond(
+    alloc: Global,
+    depth: u32,
+    tokens: &[Token],
+) -> Result<(Option<Cond>, &[Token]), ReadError>
+    ensures { Gives (λ x. (x.0, x.1.now)) result (where_at depth tokens.now) }
+{
+    if !begins(Fixed::Where, tokens) {
+        return Ok((None, tokens));
+    }
+    let (cond, rest) = cond(alloc, depth, behind(tokens))?;
+    Ok((Some(cond), rest))
+}
+
+/// SELECT.
+#[tactic(auto, unfolding(crate::specs::Reading::select_at))]
+pub fn select(
+    alloc: Global,
+    depth: u32,
+    tokens: &[Token],
+) -> Result<(Statement, &[Token]), ReadError>
+    ensures { Gives (λ x. (x.0, x.1.now)) result (select_at depth tokens.now) }
+{
+    let rest = expect(Fixed::Select, tokens)?;
+    let (items, rest) = select_items(alloc, rest)?;
+    let rest = expect(Fixed::From, rest)?;
+    let (tab, rest) = tab(rest)?;
+    let (cond, rest) = where_cond(alloc, depth, rest)?;
+    let select = Select { items, tab, cond };
+    Ok((Statement::Select(select), rest))
+}

@@ -1,0 +1,167 @@
+use super::*;
+use list_types::Bytes;
+use std::test::*;
+
+// The calls below are made by functions that promise nothing: else each assertion's proof would look into its literals.
+
+// A statement is 0, a syntax error 1, too deep 2, with the place.
+fn outcome(rt: &HostRuntime, text: &[u8]) -> (u8, u64) {
+    match parse(rt.alloc(), text) {
+        Ok(_) => (0, 0),
+        Err(ParseFault::Syntax { place }) => (1, place),
+        Err(ParseFault::Deep { place }) => (2, place),
+        Err(ParseFault::NoMemory) => (3, 0),
+    }
+}
+
+fn add_times(out: &mut Vec<u8>, piece: &[u8], times: usize) -> Result<(), Fail> {
+    for _ in 0..times {
+        out.extend_from_slice(piece)?;
+    }
+    Ok(())
+}
+
+// A text with a piece so many times between two others.
+fn repeated(
+    rt: &HostRuntime,
+    front: &[u8],
+    piece: &[u8],
+    times: usize,
+    rest: &[u8],
+) -> Result<(u8, u64), Fail> {
+    let mut text = Vec::new(rt.alloc());
+    text.extend_from_slice(front)?;
+    add_times(&mut text, piece, times)?;
+    text.extend_from_slice(rest)?;
+    Ok(outcome(rt, text.as_slice()))
+}
+
+fn enclosed(rt: &HostRuntime, times: usize, inside: &[u8]) -> Result<(u8, u64), Fail> {
+    let mut text = Vec::new(rt.alloc());
+    text.extend_from_slice(b"SELECT a FROM t WHERE ")?;
+    add_times(&mut text, b"(", times)?;
+    text.extend_from_slice(inside)?;
+    add_times(&mut text, b")", times)?;
+    Ok(outcome(rt, text.as_slice()))
+}
+
+#[test]
+fn statements_and_faults(rt: HostRuntime) -> Result<(), Fail> {
+    let cases: [(&[u8], u8, u64); 24] = [
+        (b"SELECT * FROM t", 0, 0),
+        (
+            b" select `a` as b,t.c from spider.t u where not a=1 or b in ('x',\"y\"\"\\n\") ; ",
+            0,
+            0,
+        ),
+        (
+            b"insert into t(k,v) values(-1,'a''b'),(+2,NULL)/* end */",
+            0,
+            0,
+        ),
+        (
+            b"INSERT t VALUES (-170141183460469231731687303715884105728)",
+            0,
+            0,
+        ),
+        (b"", 1, 0),
+        (b"SELECT", 1, 6),
+        (b"SELECT a FROM t WHERE a = 1 AND", 1, 31),
+        (b"SELECT select FROM t", 1, 7),
+        (b"SELECT a FROM t; ;", 1, 17),
+        (b"SELECT a FROM t WHERE a = 'x", 1, 26),
+        (b"SELECT a FROM t WHERE a = 'x\\q'", 1, 26),
+        (b"SELECT a FROM t WHERE `a = 1", 1, 22),
+        (b"SELECT a FROM t /* x", 1, 16),
+        (b"SELECT a FROM t /*!1*/", 1, 16),
+        (b"SELECT a FROM t WHERE a IN (1 2)", 1, 30),
+        (b"SELECT a FROM t WHERE 1 IN (1)", 1, 24),
+        (b"INSERT t VALUES (1a)", 1, 18),
+        (
+            b"INSERT t VALUES (170141183460469231731687303715884105728)",
+            1,
+            17,
+        ),
+        (b"INSERT t VALUES ('\xff')", 1, 18),
+        (b"INSERT t VALUES ,'\xff'", 1, 16),
+        (b"/* \xff */ SELECT a FROM t", 1, 3),
+        (b"SELECT a FROM Spider.t", 1, 20),
+        (b"SELECT a FROM `spider`.t", 1, 22),
+        (b"SELECT a FROM spider", 0, 0),
+    ];
+    for (text, kind, place) in cases {
+        assert_eq!(rt; outcome(&rt, text), (kind, place), "{text:?}");
+    }
+    Ok(())
+}
+
+#[test]
+fn openings(rt: HostRuntime) -> Result<(), Fail> {
+    assert_eq!(rt; enclosed(&rt, 64, b"a = 1")?, (0, 0));
+    assert_eq!(rt; enclosed(&rt, 65, b"a = 1")?, (2, 86));
+    assert_eq!(rt; enclosed(&rt, 63, b"a IN (1)")?, (0, 0));
+    assert_eq!(rt; enclosed(&rt, 64, b"a IN (1)")?, (2, 91));
+    let front = b"SELECT a FROM t WHERE ";
+    assert_eq!(rt; repeated(&rt, front, b"NOT ", 64, b"a = 1")?, (0, 0));
+    assert_eq!(rt; repeated(&rt, front, b"NOT ", 65, b"a = 1")?, (2, 278));
+    assert_eq!(rt; repeated(&rt, front, b"(", 1_048_576, b"")?, (2, 86));
+    Ok(())
+}
+
+#[test]
+fn long_texts(rt: HostRuntime) -> Result<(), Fail> {
+    assert_eq!(rt;
+        repeated(&rt, b"INSERT t VALUES (", b"9", 1_000_000, b")")?,
+        (1, 17)
+    );
+    assert_eq!(rt; repeated(&rt, b"SELECT a", b",a", 899, b" FROM t")?, (0, 0));
+    assert_eq!(rt;
+        repeated(&rt, b"SELECT a", b",a", 900, b" FROM t")?,
+        (1, 1806)
+    );
+    assert_eq!(rt;
+        repeated(&rt, b"INSERT t VALUES (1)", b",(1)", 100_000, b"")?,
+        (0, 0)
+    );
+    Ok(())
+}
+
+// The canonical text of a statement, or nothing where it is refused.
+fn canonical(rt: &HostRuntime, text: &[u8]) -> Result<Bytes, Fail> {
+    match parse(rt.alloc(), text) {
+        Ok(statement) => Ok(print(rt.alloc(), &statement)?),
+        Err(_) => Ok(Bytes::new(rt.alloc())),
+    }
+}
+
+fn prints_as(rt: &HostRuntime, text: &[u8], expected: &[u8]) -> Result<bool, Fail> {
+    Ok(canonical(rt, text)?.as_slice() == expected)
+}
+
+#[test]
+fn canonical_texts(rt: HostRuntime) -> Result<(), Fail> {
+    let cases: [(&[u8], &[u8]); 6] = [
+        (b"select * from spider.t;", b"SELECT * FROM `t`"),
+        (
+            b"SELECT a b,t.c FROM t AS u",
+            b"SELECT `a` AS `b`, `t`.`c` FROM `t` AS `u`",
+        ),
+        (
+            b"insert t(k,v) values(+1,\"a'\\\\\\n\"),(-2,null)",
+            b"INSERT INTO `t` (`k`, `v`) VALUES (1,'a''\\\\\\n'),(-2,NULL)",
+        ),
+        (
+            b"SELECT a FROM t WHERE ((a=1)) AND (a!=2 AND b<3) OR NOT (a<=2 OR b>=3)",
+            b"SELECT `a` FROM `t` WHERE `a` = 1 AND (`a` <> 2 AND `b` < 3) OR NOT (`a` <= 2 OR `b` >= 3)",
+        ),
+        (
+            b"SELECT a FROM t WHERE (a > 1 OR 'x' = b) AND NOT (a NOT IN (1, 2)) AND NOT NOT t.b NOT BETWEEN 1 AND 'y'",
+            b"SELECT `a` FROM `t` WHERE (`a` > 1 OR 'x' = `b`) AND NOT `a` NOT IN (1,2) AND NOT NOT `t`.`b` NOT BETWEEN 1 AND 'y'",
+        ),
+        (b"SELECT a", b""),
+    ];
+    for (text, expected) in cases {
+        assert!(rt; prints_as(&rt, text, expected)?, "{text:?}");
+    }
+    Ok(())
+}
