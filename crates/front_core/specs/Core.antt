@@ -14,8 +14,8 @@ use Rattle.fixed_text.specs.declared.link.LinkAnswer.{LinkAnswer}
 use Rattle.fixed_text.specs.declared.link.LinkAnswer.TheVariants.{Done, Rows, Refused}
 use Rattle.fixed_text.specs.Reading.{statement_of}
 use Rattle.my_messages.specs.declared.reply.Reply.{Reply}
-use Rattle.plain_tables.specs.Replies.{ok_reply, syntax_reply, duplicate_reply, refused_reply, full_reply, rows_reply}
-use Rattle.plain_tables.specs.Exec.{new_row}
+use Rattle.fixed_tables.specs.Replies.{ok_reply, syntax_reply, duplicate_reply, refused_reply, full_reply, rows_reply}
+use Rattle.fixed_tables.specs.Exec.{new_row}
 use Rattle.front_core.specs.declared.event.TxNo.{TxNo}
 use Rattle.front_core.specs.declared.work.Work.{Work}
 use Rattle.front_core.specs.declared.work.Work.TheVariants.{Idle, Checking, Writing, Reading}

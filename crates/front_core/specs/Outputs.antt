@@ -4,7 +4,7 @@ use Rattle.std.specs.List.{AllByRecursion}
 use Rattle.fixed_text.specs.declared.link.LinkRequest.{LinkRequest}
 use Rattle.my_messages.specs.declared.reply.Reply.{Reply}
 use Rattle.my_messages.specs.Reply.{HasBytes}
-use Rattle.plain_tables.specs.Replies.{no_memory_reply}
+use Rattle.fixed_tables.specs.Replies.{no_memory_reply}
 use Rattle.front_core.specs.declared.event.TxNo.{TxNo}
 use Rattle.front_core.specs.declared.event.Output.{Output}
 use Rattle.front_core.specs.declared.event.Output.TheVariants.{Send, Await, Decided, Acked, Answer}

@@ -1,7 +1,7 @@
 // What a session's statement waits for, and how it goes on. After want of memory the front makes the session idle.
 ghost use Rattle.std.specs.Prelude.{◌≡◌, ◌∷◌, [], IfOk, Some};
 ghost use Rattle.my_messages.specs.Reply.{HasBytes};
-ghost use Rattle.plain_tables.specs.Exec.{new_row};
+ghost use Rattle.fixed_tables.specs.Exec.{new_row};
 ghost use Rattle.front_core.specs.Outputs.{AnswersHaveBytes};
 ghost use Rattle.std.specs.List.{list_all};
 ghost use Rattle.front_core.specs.Core.{asks as asked, is_short as short_value, is_short_row as short_row, is_rows as rows_form, is_done as done_form};

@@ -2,7 +2,7 @@
 ghost use Rattle.std.specs.Prelude.{◌≡◌, ◌++◌, ◌∷◌, [], List, Option, IfOk, IfSome, OnOk};
 ghost use Rattle.my_messages.specs.Reply.{HasBytes};
 ghost use Rattle.my_messages.specs.declared.reply.Reply.{Reply};
-ghost use Rattle.plain_tables.specs.Replies.{no_memory_reply};
+ghost use Rattle.fixed_tables.specs.Replies.{no_memory_reply};
 ghost use Rattle.front_core.specs.declared.event.Output.{Output};
 ghost use Rattle.front_core.specs.Outputs.{sends, outputs_of, AnswersHaveBytes};
 ghost use Rattle.front_core.specs.Core.{work_of, answers_awaited};

@@ -6,7 +6,7 @@ use Rattle.std.proofs.lemmas.Int.{ints}
 use Rattle.std.proofs.lemmas.Nat.{mod-mul-add, div-add-mod', mod_below}
 use Rattle.std.proofs.lemmas.List.Folds.{list_any_at}
 use Rattle.sql_values.specs.declared.places.Interval.{Interval}
-use Rattle.part_rules.specs.KeySets.{is_within}
+use Rattle.sql_values.specs.KeySets.{is_within}
 use Rattle.part_rules.specs.Rules.{hash_part}
 use Rattle.part_rules.specs.Marking.{IsMarked, AreMarks}
 use Rattle.part_rules.proofs.Marks.{within_from, all_marked}

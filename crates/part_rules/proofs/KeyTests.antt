@@ -15,7 +15,7 @@ use Rattle.sql_values.specs.declared.places.Interval.{Interval}
 use Rattle.sql_values.specs.declared.tree.Comparison.TheVariants.{Equal}
 use Rattle.sql_values.specs.declared.tree.Cond.{Cond}
 use Rattle.sql_values.specs.Conditions.{compares}
-use Rattle.part_rules.specs.KeySets.{AreKeys, has_key, is_within}
+use Rattle.sql_values.specs.KeySets.{AreKeys, has_key, is_within}
 use Rattle.part_rules.specs.Keeps.{is_listed, is_between}
 
 -- tests of order by comparing

@@ -1,14 +1,10 @@
-pub mod Ascending
-pub mod Gaps
 pub mod HashMarks
 pub mod KeptKeys
-pub mod KeyLists
 pub mod KeyTests
 pub mod ListMarks
 pub mod ListParts
 pub mod MarkedParts
 pub mod Marks
-pub mod OneList
 pub mod Positions
 pub mod RangeMarks
 pub mod RangeParts

@@ -13,7 +13,7 @@ use Rattle.std.proofs.lemmas.List.Quantifiers.{position-Some}
 use Rattle.std.proofs.lemmas.Map.Lookups.{exact_signed}
 use Rattle.std.proofs.lemmas.Map.Views.{btree_map_get_iff}
 use Rattle.sql_values.specs.declared.places.Interval.{Interval}
-use Rattle.part_rules.specs.KeySets.{is_within}
+use Rattle.sql_values.specs.KeySets.{is_within}
 use Rattle.part_rules.specs.Marking.{IsMarked, Marks}
 use Rattle.part_rules.specs.Rules.{list_part, lists_key, IsIndex}
 use Rattle.part_rules.proofs.Marks.{mark_stays, mark_new, mark_set}

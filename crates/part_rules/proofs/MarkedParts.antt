@@ -7,12 +7,12 @@ use Rattle.std.proofs.lemmas.Int.{ints}
 use Rattle.sql_values.specs.declared.places.Interval.{Interval}
 use Rattle.part_rules.specs.declared.rule.Rule.{Rule}
 use Rattle.part_rules.specs.declared.rule.Rule.TheVariants.{Whole}
-use Rattle.part_rules.specs.KeySets.{IsNormal}
+use Rattle.sql_values.specs.KeySets.{IsNormal}
 use Rattle.part_rules.specs.Placing.{part}
 use Rattle.part_rules.specs.Pruned.{IsPruned}
 use Rattle.part_rules.specs.Marking.{IsMarked, AreMarks, marked_from}
 use Rattle.part_rules.proofs.ListMarks.{first_in, later_in}
-use Rattle.part_rules.proofs.OneList.{at_first}
+use Rattle.sql_values.proofs.OneList.{at_first}
 
 -- an element of a list is the first or one behind it
 in_cases : {X : Type 0} (y x : X) (xs : List X) → Contains (y ∷ xs) x → (y ≡ x) ⊎ Contains xs x

@@ -6,7 +6,7 @@ use Rattle.std.proofs.lemmas.Int.{ints, by_lt_z}
 use Rattle.std.proofs.lemmas.List.{take_more, take_all, drop_all, append-nil}
 use Rattle.std.proofs.lemmas.List.Folds.{list_any-append}
 use Rattle.sql_values.specs.declared.places.Interval.{Interval}
-use Rattle.part_rules.specs.KeySets.{has_key, is_within}
+use Rattle.sql_values.specs.KeySets.{has_key, is_within}
 use Rattle.part_rules.specs.Marking.{IsMarked, Marks, AreMarks}
 
 -- a mark stays where another one is set

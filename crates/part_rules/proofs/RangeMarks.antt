@@ -8,11 +8,11 @@ use Rattle.std.proofs.lemmas.List.{drop_all, append-nil}
 use Rattle.sql_values.specs.declared.places.Interval.{Interval}
 use Rattle.part_rules.specs.declared.bounds.Bound.{Bound}
 use Rattle.part_rules.specs.declared.bounds.Bound.TheVariants.{Below, MaxValue}
-use Rattle.part_rules.specs.KeySets.{has_key, is_within, RisesFrom, IsNormal}
+use Rattle.sql_values.specs.KeySets.{has_key, is_within, RisesFrom, IsNormal}
 use Rattle.part_rules.specs.Rules.{is_below, is_lower, rises_above, rises, range_part}
 use Rattle.part_rules.specs.Marking.{IsMarked, AreMarks, begins_below, behind, range_marks}
-use Rattle.part_rules.proofs.KeyLists.{IsNormal-from, has_key-before, RisesFrom-earlier}
-use Rattle.part_rules.proofs.OneList.{at_first}
+use Rattle.sql_values.proofs.KeyLists.{IsNormal-from, has_key-before, RisesFrom-earlier}
+use Rattle.sql_values.proofs.OneList.{at_first}
 use Rattle.part_rules.proofs.Positions.{position-first, position-behind, position-behind_of}
 use Rattle.part_rules.proofs.RangeParts.{below_higher, rises_behind}
 

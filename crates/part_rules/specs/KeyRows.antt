@@ -11,7 +11,7 @@ use Rattle.sql_values.specs.Conditions.{cond_holds}
 use Rattle.sql_values.specs.declared.places.Interval.{Interval}
 use Rattle.part_rules.specs.declared.rule.Rule.{Rule}
 use Rattle.part_rules.specs.Keeps.{keeps}
-use Rattle.part_rules.specs.KeySets.{AreKeys}
+use Rattle.sql_values.specs.KeySets.{AreKeys}
 use Rattle.part_rules.specs.Placing.{part}
 use Rattle.part_rules.specs.Pruned.{IsPruned}
 

@@ -2,7 +2,7 @@
 use Rattle.std.specs.Prelude.{◌≡◌, ℕ, ◌+◌, ℤ, Bool, true, false, List, [], ◌∷◌, Option, Some, ◌⊎◌, slice_index_or, if◌then◌else◌}
 use Rattle.sql_values.specs.declared.places.Interval.{Interval}
 use Rattle.part_rules.specs.declared.bounds.Bound.{Bound}
-use Rattle.part_rules.specs.KeySets.{has_key, is_within}
+use Rattle.sql_values.specs.KeySets.{has_key, is_within}
 use Rattle.part_rules.specs.Rules.{is_below}
 
 abbrev pub IsMarked : List Bool → ℕ → Type 0

@@ -4,7 +4,7 @@ use Rattle.std.specs.List.{Contains}
 use Rattle.std.specs.List.Sorted.{IsStrictlyIncreasing}
 use Rattle.sql_values.specs.declared.places.Interval.{Interval}
 use Rattle.part_rules.specs.declared.rule.Rule.{Rule}
-use Rattle.part_rules.specs.KeySets.{has_key}
+use Rattle.sql_values.specs.KeySets.{has_key}
 use Rattle.part_rules.specs.Placing.{part}
 
 -- a key of the set lies in the partition

@@ -1,11 +1,11 @@
 ghost use Rattle.std.specs.Prelude.{map, IfOk};
 ghost use Rattle.std.specs.List.{list_all, list_any};
-ghost use Rattle.part_rules.specs.KeySets.{AreKeys};
+ghost use Rattle.sql_values.specs.KeySets.{AreKeys};
 ghost use Rattle.part_rules.specs.Keeps.{keeps};
 
 use crate::intervals::Intervals;
 use crate::key_tests::{between_keys, comparison_keys, in_keys};
-use sql_values::{Cond, TableDef};
+use sql_values::{Cond, Intervals, TableDef};
 use std::alloc::{AllocError, Global};
 
 /// The keys that all parts keep: those that no part leaves out. What the parts leave out is collected and put in order once.

@@ -3,11 +3,10 @@
 ghost use Rattle.std.specs.Prelude.{◌≡◌, ◌^◌, ℤ, pos, neg_ℤ, ◌+ℤ◌, ◌≤ℤ◌, ◌&&◌, ◌||◌, not, IfOk, MatchOption, FitsSigned, int_le};
 ghost use Rattle.std.specs.Int.{w64};
 ghost use Rattle.sql_values.specs.Columns.{may_qualify};
-ghost use Rattle.part_rules.specs.KeySets.{AreKeys};
+ghost use Rattle.sql_values.specs.KeySets.{AreKeys};
 ghost use Rattle.part_rules.specs.Keeps.{names_key as key_named, mirrored as turned, key_compares, comparison_keeps, is_listed, is_between};
 
-use crate::intervals::Intervals;
-use sql_values::{ColumnName, Comparison, Interval, Literal, Name, Operand, TableDef};
+use sql_values::{ColumnName, Comparison, Interval, Intervals, Literal, Name, Operand, TableDef};
 use std::alloc::{AllocError, Global};
 
 fn is_qualified_by(qualifier: &Option<Name>, table: &Name) -> bool

@@ -4,8 +4,7 @@
 //! [`keys_of`] gives the keys that a row may have for which a condition holds, and [`prune`] the partitions that own one of them; so a
 //! statement's partitions are those of the keys of its condition, and no row is missed ([`laws::no_row_is_missed`]).
 //!
-//! A set of keys is [`Intervals`]: closed intervals of 64-bit keys that rise, with a key left out between one and the next, so a set has one list
-//! ([`laws::sets_have_one_list`]). [`Bounds`] rise, so a key is found among them by halves, and [`Lists`] carry an index of their keys, made once.
+//! Keys go as [`Intervals`](sql_values::Intervals), which rise. [`Bounds`] rise, so a key is found among them by halves, and [`Lists`] carry an index of their keys, made once.
 //!
 //! `specs/Rules.antt` says where a key lies, `specs/Keeps.antt` what a condition says of the key, `specs/Pruned.antt` which partitions are
 //! needed, each in the terms of the MySQL Reference Manual's chapter "Partitioning".
@@ -13,17 +12,14 @@
 
 mod bounds;
 mod condition_keys;
-mod intervals;
 mod key_tests;
 pub mod laws;
 mod lists;
-mod merging;
 mod pruning;
 mod rule;
 
 pub use bounds::{Bound, Bounds};
 pub use condition_keys::keys_of;
-pub use intervals::Intervals;
 pub use lists::Lists;
 pub use pruning::prune;
 pub use rule::{Rule, part_of};

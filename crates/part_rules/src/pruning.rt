@@ -1,16 +1,15 @@
 ghost use Rattle.std.specs.Prelude.{◌≡◌, ◌+◌, ◌<◌, ◌≤◌, ◌^◌, ◌≤ℤ◌, length, Some, None, IfOk};
 ghost use Rattle.part_rules.specs.Rules.{hash_part, range_part, list_part};
-ghost use Rattle.part_rules.specs.KeySets.{IsNormal};
+ghost use Rattle.sql_values.specs.KeySets.{IsNormal};
 ghost use Rattle.part_rules.specs.Placing.{part, part_count, IsRule};
 ghost use Rattle.part_rules.specs.Marking.{Marks, AreMarks, begins_below as begins, behind as behind_of, marked_from};
 ghost use Rattle.part_rules.specs.Pruned.{IsPruned};
 
 use crate::bounds::{Bound, Bounds, lies_below};
-use crate::intervals::Intervals;
 use crate::lists::Lists;
 use crate::rule::{Rule, hash_of};
 use list_types::Listed;
-use sql_values::{Interval, PartNo, PartNos};
+use sql_values::{Interval, Intervals, PartNo, PartNos};
 use std::alloc::{AllocError, Global};
 
 fn begins_below(keys: &[Interval], bound: &Bound) -> bool

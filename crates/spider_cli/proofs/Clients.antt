@@ -11,10 +11,10 @@ use Rattle.fixed_text.specs.declared.link.LinkRequest.TheVariants.{Scan, Put}
 use Rattle.fixed_text.specs.declared.link.LinkAnswer.TheVariants.{Rows}
 use Rattle.fixed_text.specs.Reading.{statement_of}
 use Rattle.my_messages.specs.declared.reply.Reply.{Reply}
-use Rattle.plain_tables.specs.Table.{Table, rows_of, with_key, inserted}
-use Rattle.plain_tables.specs.Replies.{ok_reply, duplicate_reply, full_reply, rows_reply}
-use Rattle.plain_tables.specs.Exec.{new_row, executed, exec}
-use Rattle.plain_tables.specs.Serial.{Plain, Follows}
+use Rattle.fixed_tables.specs.Table.{Table, rows_of, with_key, inserted}
+use Rattle.fixed_tables.specs.Replies.{ok_reply, duplicate_reply, full_reply, rows_reply}
+use Rattle.fixed_tables.specs.Exec.{new_row, executed, exec}
+use Rattle.fixed_tables.specs.Serial.{Plain, Follows}
 use Rattle.front_core.specs.declared.event.TxNo.{TxNo}
 use Rattle.front_core.specs.declared.work.Work.{Work}
 use Rattle.front_core.specs.declared.work.Work.TheVariants.{Idle, Checking}

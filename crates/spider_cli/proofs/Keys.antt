@@ -5,7 +5,7 @@ use Rattle.std.proofs.lemmas.Int.{ints}
 use Rattle.std.proofs.lemmas.Bool.{false≢true}
 use Rattle.std.proofs.lemmas.Map.Lookups.{exact_signed}
 use Rattle.sql_values.specs.declared.value.Value.{Value}
-use Rattle.plain_tables.specs.Table.{Table, rows_of, with_key, inserted}
+use Rattle.fixed_tables.specs.Table.{Table, rows_of, with_key, inserted}
 use Rattle.spider_cli.specs.BranchStore.{row_at}
 
 -- A map's look-up and insertion are the plain table's, where its keys rise.

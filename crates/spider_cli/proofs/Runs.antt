@@ -3,11 +3,11 @@ use Rattle.std.specs.List.{flat_map, AllByRecursion}
 use Rattle.std.proofs.lemmas.Grind.{flat_map-append}
 use Rattle.std.proofs.lemmas.List.{append-nil}
 use Rattle.fixed_text.specs.Reading.{statement_of}
-use Rattle.plain_tables.specs.Table.{Table}
-use Rattle.plain_tables.specs.Exec.{exec}
-use Rattle.plain_tables.specs.Solo.{Solo, solo_answers, solo_after}
-use Rattle.plain_tables.specs.Serial as serial
-use Rattle.plain_tables.specs.Serial.{Entry, Transaction, Follows}
+use Rattle.fixed_tables.specs.Table.{Table}
+use Rattle.fixed_tables.specs.Exec.{exec}
+use Rattle.fixed_tables.specs.Solo.{Solo, solo_answers, solo_after}
+use Rattle.fixed_tables.specs.Serial as serial
+use Rattle.fixed_tables.specs.Serial.{Entry, Transaction, Follows}
 use Rattle.front_core.specs.declared.event.TxNo.{TxNo}
 use Rattle.front_core.specs.declared.event.Output.{Output}
 use Rattle.front_core.specs.Outputs.{decided_in}

@@ -9,8 +9,8 @@ use Rattle.fixed_text.specs.declared.statement.Statement.TheVariants.{Insert}
 use Rattle.fixed_text.specs.Grammar.{Piece, Part, Word, Blanks, Number, Quoted, Num, Str, Fits, insert_form}
 use Rattle.fixed_text.specs.Reading.{statement_of}
 use Rattle.fixed_text.proofs.Statements.{statement_sound}
-use Rattle.plain_tables.specs.Table.{Table}
-use Rattle.plain_tables.specs.Exec.{new_row}
+use Rattle.fixed_tables.specs.Table.{Table}
+use Rattle.fixed_tables.specs.Exec.{new_row}
 use Rattle.front_core.specs.Core.{is_short_row}
 use Rattle.spider_cli.specs.BranchStore.{AreShort, row_at}
 

@@ -11,10 +11,10 @@ use Rattle.fixed_text.specs.Reading.{statement_of}
 use Rattle.my_messages.specs.declared.command.Command.{Command}
 use Rattle.my_messages.specs.declared.command.Command.TheVariants.{Quit, InitDb, Query, Ping, Unknown}
 use Rattle.my_messages.specs.declared.reply.Reply.{Reply}
-use Rattle.plain_tables.specs.Table.{Table}
-use Rattle.plain_tables.specs.Exec.{exec}
-use Rattle.plain_tables.specs.Replies.{no_memory_reply}
-use Rattle.plain_tables.specs.Solo.{Solo, solo_answers}
+use Rattle.fixed_tables.specs.Table.{Table}
+use Rattle.fixed_tables.specs.Exec.{exec}
+use Rattle.fixed_tables.specs.Replies.{no_memory_reply}
+use Rattle.fixed_tables.specs.Solo.{Solo, solo_answers}
 use Rattle.front_core.specs.declared.work.Work.{Work}
 use Rattle.front_core.specs.declared.work.Work.TheVariants.{Idle}
 use Rattle.front_core.specs.declared.event.Event.TheVariants.{Open, Statement as Asked, Got}

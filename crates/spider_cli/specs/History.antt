@@ -1,8 +1,8 @@
 use Rattle.std.specs.Prelude.{◌≡◌, ℕ, ◌==◌, ◌&&◌, Bool, List, [], ◌∷◌, Option, Some, None, if◌then◌else◌, map, option_to_list}
 use Rattle.std.specs.List.{flat_map}
 use Rattle.my_messages.specs.declared.reply.Reply.{Reply}
-use Rattle.plain_tables.specs.Serial.{Entry, Plain, Transaction, Serial}
-use Rattle.plain_tables.specs.Solo.{new_solo, solo_answers, solo_after}
+use Rattle.fixed_tables.specs.Serial.{Entry, Plain, Transaction, Serial}
+use Rattle.fixed_tables.specs.Solo.{new_solo, solo_answers, solo_after}
 use Rattle.front_core.specs.declared.event.TxNo.{TxNo}
 use Rattle.front_core.specs.declared.event.Output.{Output}
 use Rattle.front_core.specs.declared.event.Output.TheVariants.{Send, Await, Decided, Acked, Answer}

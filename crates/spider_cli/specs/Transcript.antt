@@ -7,7 +7,7 @@ use Rattle.fixed_text.specs.Print.{quoted}
 use Rattle.my_messages.specs.declared.reply.Column.{Column}
 use Rattle.my_messages.specs.declared.reply.Reply.{Reply}
 use Rattle.my_messages.specs.declared.reply.Reply.TheVariants as reply
-use Rattle.plain_tables.specs.Table.{Table}
+use Rattle.fixed_tables.specs.Table.{Table}
 use Rattle.front_core.specs.declared.event.TxNo.{TxNo}
 use Rattle.front_core.specs.declared.event.Output.{Output}
 use Rattle.front_core.specs.declared.event.Output.TheVariants.{Send, Await, Decided, Acked, Answer}

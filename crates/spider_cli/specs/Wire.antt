@@ -7,8 +7,8 @@ use Rattle.my_messages.specs.declared.command.Command.{Command}
 use Rattle.my_messages.specs.declared.command.Command.TheVariants.{Quit, InitDb, Query, Ping, Unknown}
 use Rattle.my_messages.specs.declared.reply.Reply.{Reply}
 use Rattle.my_messages.specs.declared.session_end.SessionEnd.{SessionEnd}
-use Rattle.plain_tables.specs.Replies.{no_memory_reply}
-use Rattle.plain_tables.specs.Solo.{new_solo, solo_answers}
+use Rattle.fixed_tables.specs.Replies.{no_memory_reply}
+use Rattle.fixed_tables.specs.Solo.{new_solo, solo_answers}
 use Rattle.front_node.specs.Session.{Exchange, Sent, sent_to, EndsBy, IsOver}
 
 -- the statements that a client sent, and what each was answered

@@ -1,7 +1,7 @@
 use Rattle.std.specs.Prelude.{ℕ, zero, suc, ◌++◌, List, [], ◌∷◌, Bool, is_some, if◌then◌else◌}
 use Rattle.fixed_text.specs.declared.link.LinkRequest.{LinkRequest}
 use Rattle.fixed_text.specs.declared.link.LinkAnswer.{LinkAnswer}
-use Rattle.plain_tables.specs.Table.{Table}
+use Rattle.fixed_tables.specs.Table.{Table}
 use Rattle.front_core.specs.declared.event.Event.{Event}
 use Rattle.front_core.specs.declared.event.Event.TheVariants as event
 use Rattle.front_core.specs.declared.event.Output.{Output}

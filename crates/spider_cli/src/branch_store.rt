@@ -22,7 +22,7 @@ pub struct BranchStore {
 }
 
 impl Model for BranchStore {
-    ghost use Rattle.plain_tables.specs.Table.{Table};
+    ghost use Rattle.fixed_tables.specs.Table.{Table};
     ghost use Rattle.spider_cli.specs.BranchStore.{AreShort};
 
     ghost Value = { Table };

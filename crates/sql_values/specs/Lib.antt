@@ -2,8 +2,10 @@ pub mod Checks
 pub mod Columns
 pub mod Conditions
 pub mod Expressions
+pub mod KeySets
 pub mod Kinds
 pub mod Laws
+pub mod Merging
 pub mod Names
 pub mod Scalars
 pub mod Seeking

@@ -1,7 +1,7 @@
 use Rattle.std.proofs.Common.{Bool, not, map, ap, ◌∙◌}
 use Rattle.std.specs.List.{list_all, list_any}
 use Rattle.sql_values.specs.declared.tree.Cond.{Cond}
-use Rattle.part_rules.specs.KeySets.{has_key}
+use Rattle.sql_values.specs.KeySets.{has_key}
 use Rattle.part_rules.specs.Keeps.{keeps}
 use Rattle.part_rules.proofs.KeyTests.{keys_alike, keys_same, all_more, all_done, any_done}
 use Rattle.part_rules.proofs.condition_keys.+condition_keys.Goals as goal

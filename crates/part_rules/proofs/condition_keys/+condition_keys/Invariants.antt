@@ -1,7 +1,7 @@
 use Rattle.std.proofs.Common.{◌≡◌, ℤ, FitsSigned, not, ◌||◌, ◌&&◌, map, drop}
 use Rattle.std.specs.Int.{w64}
 use Rattle.std.specs.List.{list_all, list_any}
-use Rattle.part_rules.specs.KeySets.{has_key}
+use Rattle.sql_values.specs.KeySets.{has_key}
 use Rattle.part_rules.specs.Keeps.{keeps}
 use Rattle.part_rules.proofs.condition_keys.+condition_keys.Given as goal
 

@@ -2,7 +2,7 @@ use Rattle.std.proofs.Common.{Bool, not, ap, sym, ◌∙◌, arith}
 use Rattle.std.proofs.lemmas.Int.{ints}
 use Rattle.std.specs.Ordering.{int_cmp}
 use Rattle.sql_values.specs.Conditions.{is_met_by}
-use Rattle.part_rules.specs.KeySets.{has_key}
+use Rattle.sql_values.specs.KeySets.{has_key}
 use Rattle.part_rules.proofs.KeyTests.{keys_alike, eq_cmp, less_than}
 use Rattle.part_rules.proofs.key_tests.compared.Goals as goal
 

@@ -1,6 +1,6 @@
 use Rattle.std.proofs.Common.{◌≡◌, ℤ, FitsSigned, ◌||◌, drop}
 use Rattle.std.specs.Int.{w64}
-use Rattle.part_rules.specs.KeySets.{has_key}
+use Rattle.sql_values.specs.KeySets.{has_key}
 use Rattle.part_rules.specs.Keeps.{is_listed}
 use Rattle.part_rules.proofs.key_tests.listed.Given as goal
 

@@ -1,7 +1,7 @@
 use Rattle.std.proofs.Common.{◌≡◌, ◌*◌, ◌-◌, ◌-ℤ◌, ◌≤ℤ◌, get_or, w64, SFits, length, rules, arith}
 use Rattle.std.specs.Prelude.{unsigned_abs}
 use Rattle.std.proofs.lemmas.Int.{to_z-of_z}
-use Rattle.part_rules.proofs.KeyLists.{filled_at, no_interval}
+use Rattle.sql_values.proofs.KeyLists.{filled_at, no_interval}
 use Rattle.part_rules.proofs.Marks.{Stepped-more, Stepped-count, AreMarks-whole}
 use Rattle.part_rules.proofs.HashMarks.{AreMarks-full, is_long}
 use Rattle.part_rules.proofs.pruning.hash_marks.Goals as goal

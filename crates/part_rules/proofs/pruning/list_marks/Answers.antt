@@ -1,5 +1,5 @@
 use Rattle.std.proofs.Common.{◌≡◌, length, rules}
-use Rattle.part_rules.proofs.KeyLists.{filled_at, no_interval}
+use Rattle.sql_values.proofs.KeyLists.{filled_at, no_interval}
 use Rattle.part_rules.proofs.Marks.{Stepped-more, Stepped-count}
 use Rattle.part_rules.proofs.pruning.list_marks.Goals as goal
 

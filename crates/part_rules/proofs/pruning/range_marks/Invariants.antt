@@ -1,5 +1,5 @@
 use Rattle.std.proofs.Common.{◌≡◌, ◌++◌, drop}
-use Rattle.part_rules.specs.KeySets.{IsNormal}
+use Rattle.sql_values.specs.KeySets.{IsNormal}
 use Rattle.part_rules.specs.Marking.{range_marks}
 use Rattle.part_rules.proofs.pruning.range_marks.Given as goal
 

@@ -2,8 +2,8 @@ use Rattle.std.specs.Prelude.{◌≡◌, ◌⊎◌, ℕ, List, [], ◌∷◌}
 use Rattle.std.specs.List.{flat_map}
 use Rattle.my_messages.specs.declared.reply.Reply.{Reply}
 use Rattle.my_messages.specs.declared.reply.Reply.TheVariants as reply
-use Rattle.plain_tables.specs.Table.{Table}
-use Rattle.plain_tables.specs.Exec.{exec}
+use Rattle.fixed_tables.specs.Table.{Table}
+use Rattle.fixed_tables.specs.Exec.{exec}
 
 -- a statement of a transaction, with its answer: one that ran, or one that was turned away and changed nothing
 pub data Entry : Type 0 where

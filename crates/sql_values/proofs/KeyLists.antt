@@ -3,8 +3,8 @@ use Rattle.std.specs.Prelude.{int_le}
 use Rattle.std.proofs.lemmas.Int.{ints}
 use Rattle.std.proofs.lemmas.List.{drop_more}
 use Rattle.sql_values.specs.declared.places.Interval.{Interval}
-use Rattle.part_rules.specs.KeySets.{has_key, is_within, RisesFrom, IsNormal}
-use Rattle.part_rules.specs.Merging.{Ascends}
+use Rattle.sql_values.specs.KeySets.{has_key, is_within, RisesFrom, IsNormal}
+use Rattle.sql_values.specs.Merging.{Ascends}
 
 -- what stands past a list's end, where code reads an interval
 abbrev pub no_interval : Interval

@@ -1,7 +1,7 @@
 use Rattle.std.proofs.Common.{pos, ◌+ℤ◌, ◌∙◌, arith}
 use Rattle.std.proofs.lemmas.Int.{ints}
-use Rattle.part_rules.proofs.KeyLists.{Ascends-step, Ascends-earlier, RisesTo-push, RisesTo-later, IsNormal-of, joined-united, joined-apart, no_interval}
-use Rattle.part_rules.proofs.merging.joined_from.Goals as goal
+use Rattle.sql_values.proofs.KeyLists.{Ascends-step, Ascends-earlier, RisesTo-push, RisesTo-later, IsNormal-of, joined-united, joined-apart, no_interval}
+use Rattle.sql_values.proofs.merging.joined_from.Goals as goal
 
 pub loop-next-preserved-in-Some : goal.loop-next-preserved-in-Some
 loop-next-preserved-in-Some c =

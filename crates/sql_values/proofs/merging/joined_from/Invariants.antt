@@ -1,8 +1,8 @@
 use Rattle.std.proofs.Common.{◌≡◌, ℤ, ◌≤ℤ◌, ◌∷◌, ◌++◌, drop}
-use Rattle.part_rules.specs.KeySets.{has_key}
-use Rattle.part_rules.specs.Merging.{Ascends}
-use Rattle.part_rules.proofs.KeyLists.{RisesTo}
-use Rattle.part_rules.proofs.merging.joined_from.Given as goal
+use Rattle.sql_values.specs.KeySets.{has_key}
+use Rattle.sql_values.specs.Merging.{Ascends}
+use Rattle.sql_values.proofs.KeyLists.{RisesTo}
+use Rattle.sql_values.proofs.merging.joined_from.Given as goal
 
 abbrev pub invariant-loop-next : goal.invariant-loop-next
 invariant-loop-next l = record {

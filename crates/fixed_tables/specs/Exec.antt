@@ -5,8 +5,8 @@ use Rattle.fixed_text.specs.declared.statement.Statement.{Statement}
 use Rattle.fixed_text.specs.declared.statement.Statement.TheVariants.{Insert, Select}
 use Rattle.fixed_text.specs.Reading.{statement_of}
 use Rattle.my_messages.specs.declared.reply.Reply.{Reply}
-use Rattle.plain_tables.specs.Table.{Table, rows_of, with_key, inserted}
-use Rattle.plain_tables.specs.Replies.{ok_reply, syntax_reply, duplicate_reply, rows_reply}
+use Rattle.fixed_tables.specs.Table.{Table, rows_of, with_key, inserted}
+use Rattle.fixed_tables.specs.Replies.{ok_reply, syntax_reply, duplicate_reply, rows_reply}
 
 -- the row that an INSERT brings
 abbrev pub new_row : ℤ → List ℕ → List Value

@@ -1,7 +1,7 @@
 use Rattle.std.proofs.Common.{rules}
 use Rattle.std.proofs.lemmas.Fn.{filter_same, always_returns_same}
-use Rattle.part_rules.proofs.Ascending.{is_filled, IsAscending-sorted, has_key-sorted}
-use Rattle.part_rules.proofs.merging.ascending.Goals as goal
+use Rattle.sql_values.proofs.Ascending.{is_filled, IsAscending-sorted, has_key-sorted}
+use Rattle.sql_values.proofs.merging.ascending.Goals as goal
 
 pub returns-clause-ascending : goal.returns-clause-ascending
 returns-clause-ascending c =

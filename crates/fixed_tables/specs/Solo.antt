@@ -1,7 +1,7 @@
 use Rattle.std.specs.Prelude.{ℕ, Bool, true, List, [], ◌∷◌, Option, None}
 use Rattle.my_messages.specs.declared.reply.Reply.{Reply}
-use Rattle.plain_tables.specs.Table.{Table}
-use Rattle.plain_tables.specs.Exec.{exec}
+use Rattle.fixed_tables.specs.Table.{Table}
+use Rattle.fixed_tables.specs.Exec.{exec}
 
 -- a plain session: its table, the table as the open transaction began, where one is open, and whether each statement is a transaction of its own
 pub record Solo : Type 0 where

@@ -1,6 +1,6 @@
 use Rattle.std.proofs.Common.{◌≡◌, ◌≤ℤ◌}
-use Rattle.part_rules.proofs.Gaps.{Gaps, greatest_key}
-use Rattle.part_rules.proofs.merging.gaps.Given as goal
+use Rattle.sql_values.proofs.Gaps.{Gaps, greatest_key}
+use Rattle.sql_values.proofs.merging.gaps.Given as goal
 
 abbrev pub invariant-loop-interval : goal.invariant-loop-interval
 invariant-loop-interval l = record {

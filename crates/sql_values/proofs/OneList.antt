@@ -4,8 +4,8 @@ use Rattle.std.specs.Int.{w64}
 use Rattle.std.proofs.lemmas.Bool.{false≢true}
 use Rattle.std.proofs.lemmas.Int.{ints, by_lt_z}
 use Rattle.sql_values.specs.declared.places.Interval.{Interval}
-use Rattle.part_rules.specs.KeySets.{has_key, RisesFrom, IsNormal, AreBigInts, HaveSameKeys}
-use Rattle.part_rules.proofs.KeyLists.{has_key-before, RisesFrom-earlier}
+use Rattle.sql_values.specs.KeySets.{has_key, RisesFrom, IsNormal, AreBigInts, HaveSameKeys}
+use Rattle.sql_values.proofs.KeyLists.{has_key-before, RisesFrom-earlier}
 
 -- a key of the first interval is in the set
 pub at_first : (x : Interval) (is : List Interval) (key : ℤ) → x.low ≤ℤ key → key ≤ℤ x.high → has_key (x ∷ is) key ≡ true

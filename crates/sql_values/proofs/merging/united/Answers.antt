@@ -1,9 +1,9 @@
 use Rattle.std.proofs.Common.{rules, arith, FitsSigned, pos, ◌+ℤ◌, ◌≤ℤ◌}
 use Rattle.std.specs.Int.{w64}
 use Rattle.std.proofs.lemmas.Int.{ints, to_z-of_z}
-use Rattle.part_rules.proofs.KeyLists.{within_later}
-use Rattle.part_rules.proofs.merging.united.Goals as goal
-use Rattle.part_rules.proofs.merging.united.Goals.{else-next-current-via-then-next-current+else-next-current-2, else-next-current-via-else-next-current}
+use Rattle.sql_values.proofs.KeyLists.{within_later}
+use Rattle.sql_values.proofs.merging.united.Goals as goal
+use Rattle.sql_values.proofs.merging.united.Goals.{else-next-current-via-then-next-current+else-next-current-2, else-next-current-via-else-next-current}
 
 pub returns-then-next-current-3-clause-keys : goal.returns-then-next-current-3-clause-keys
 returns-then-next-current-3-clause-keys c = λ key.

@@ -6,9 +6,9 @@ use Rattle.std.proofs.lemmas.Bool.{cond-true, cond-false}
 use Rattle.std.proofs.lemmas.List.{drop_more, drop_all}
 use Rattle.std.proofs.lemmas.List.Folds.{list_any-append}
 use Rattle.sql_values.specs.declared.places.Interval.{Interval}
-use Rattle.part_rules.specs.KeySets.{has_key, is_within, RisesFrom, IsNormal}
-use Rattle.part_rules.specs.Merging.{with_gap}
-use Rattle.part_rules.proofs.KeyLists.{IsNormal-from, RisesTo, RisesTo-push, RisesTo-later, RisesFrom-earlier, IsNormal-of, has_key-before, no_interval}
+use Rattle.sql_values.specs.KeySets.{has_key, is_within, RisesFrom, IsNormal}
+use Rattle.sql_values.specs.Merging.{with_gap}
+use Rattle.sql_values.proofs.KeyLists.{IsNormal-from, RisesTo, RisesTo-push, RisesTo-later, RisesFrom-earlier, IsNormal-of, has_key-before, no_interval}
 
 -- the ends of a BIGINT
 abbrev pub least_key : ℤ

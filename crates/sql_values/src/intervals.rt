@@ -1,10 +1,10 @@
 ghost use Rattle.std.specs.Prelude.{◌≡◌, ℤ, ◌≤ℤ◌, ◌↔◌, ◌&&◌, ◌||◌, not, true, [], IfOk, IsTrue, FitsSigned};
 ghost use Rattle.std.specs.Int.{w64};
-ghost use Rattle.part_rules.specs.KeySets.{AreKeys, has_key, is_within, IsNormal};
+ghost use Rattle.sql_values.specs.KeySets.{AreKeys, has_key, is_within, IsNormal};
 
+use crate::Interval;
 use crate::merging::{ALL_KEYS, gaps, joined};
 use list_types::Listed;
-use sql_values::Interval;
 use std::alloc::{AllocError, Global};
 use std::marker::Model;
 
@@ -19,7 +19,7 @@ pub struct Intervals {
 impl Model for Intervals {
     ghost use Rattle.std.specs.Prelude.{List};
     ghost use Rattle.sql_values.specs.declared.places.Interval.{Interval};
-    ghost use Rattle.part_rules.specs.KeySets.{IsNormal};
+    ghost use Rattle.sql_values.specs.KeySets.{IsNormal};
 
     ghost Value = { List Interval };
 

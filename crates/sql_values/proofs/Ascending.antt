@@ -8,9 +8,9 @@ use Rattle.std.proofs.lemmas.List.Elements.{All-head, All-tail, filter_passes}
 use Rattle.std.proofs.lemmas.List.Sorted.{list_any-IsPermutation, All-permutation}
 use Rattle.std.proofs.lemmas.Map.Views.{any-filter_same}
 use Rattle.sql_values.specs.declared.places.Interval.{Interval}
-use Rattle.part_rules.specs.KeySets.{has_key, is_within}
-use Rattle.part_rules.specs.Merging.{Ascends, IsAscending}
-use Rattle.part_rules.proofs.KeyLists.{no_interval}
+use Rattle.sql_values.specs.KeySets.{has_key, is_within}
+use Rattle.sql_values.specs.Merging.{Ascends, IsAscending}
+use Rattle.sql_values.proofs.KeyLists.{no_interval}
 
 -- the interval has a key
 abbrev pub is_filled : Interval → Bool

@@ -1,9 +1,9 @@
 ghost use Rattle.std.specs.Prelude.{◌≡◌, ℤ, pos, ◌+ℤ◌, ◌≤ℤ◌, ◌∷◌, IfOk, OnOk, IfSome, IfNone, FitsSigned, not, ◌||◌};
 ghost use Rattle.std.specs.Int.{w64};
-ghost use Rattle.part_rules.specs.KeySets.{AreKeys, has_key, is_within, IsNormal};
-ghost use Rattle.part_rules.specs.Merging.{Ascends, IsAscending, with_gap};
+ghost use Rattle.sql_values.specs.KeySets.{AreKeys, has_key, is_within, IsNormal};
+ghost use Rattle.sql_values.specs.Merging.{Ascends, IsAscending, with_gap};
 
-use sql_values::Interval;
+use crate::Interval;
 use std::alloc::{AllocError, Global};
 
 /// Each key of a BIGINT.

@@ -1,7 +1,7 @@
 use Rattle.std.proofs.Common.{arith, refl}
 use Rattle.std.proofs.lemmas.Int.{ints}
-use Rattle.part_rules.proofs.Gaps.{Gaps-more, AreGaps-at_top, AreGaps-at_end, AreGaps}
-use Rattle.part_rules.proofs.merging.gaps.Goals as goal
+use Rattle.sql_values.proofs.Gaps.{Gaps-more, AreGaps-at_top, AreGaps-at_end, AreGaps}
+use Rattle.sql_values.proofs.merging.gaps.Goals as goal
 
 pub loop-interval-preserved : goal.loop-interval-preserved
 loop-interval-preserved c = record {
