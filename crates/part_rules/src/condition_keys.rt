@@ -3,7 +3,6 @@ ghost use Rattle.std.specs.List.{list_all, list_any};
 ghost use Rattle.sql_values.specs.KeySets.{AreKeys};
 ghost use Rattle.part_rules.specs.Keeps.{keeps};
 
-use crate::intervals::Intervals;
 use crate::key_tests::{between_keys, comparison_keys, in_keys};
 use sql_values::{Cond, Intervals, TableDef};
 use std::alloc::{AllocError, Global};
