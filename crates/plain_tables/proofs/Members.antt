@@ -73,18 +73,6 @@ from_list f (q ∷ ps) p z at c = elim (either q p ps at) [
   ]
 
 module _ {X : Type 0} (cmp : X → X → Ordering) where
-  -- a part of a list that rises does so too
-  pub rises_kept : (p : X → Bool) (xs : List X) → IsStrictlySortedBy cmp xs → IsStrictlySortedBy cmp (filter p xs)
-  unfolding IsStrictlySortedBy
-  rises_kept p [] h = tt
-  rises_kept p (x ∷ xs) h =
-      let rest = rises_kept p xs h.1 in
-      let below : AllByRecursion (λ y. cmp x y ≡ Less) (filter p xs) = all_by (λ y. cmp x y ≡ Less) (filter p xs) (λ z c. all_of (λ y. cmp x y ≡ Less) xs z h.0 (kept_passes p xs z c).0) in
-      elim (cases_Bool (p x)) [
-      | inl stays ↦ subst (λ b. IsStrictlySortedBy cmp (cond b (x ∷ filter p xs) (filter p xs))) (sym stays) (below, rest)
-      | inr goes ↦ subst (λ b. IsStrictlySortedBy cmp (cond b (x ∷ filter p xs) (filter p xs))) (sym goes) rest
-    ]
-
   not_below : {P : Type 0} → IsTotalOrder cmp → (x y : X) → cmp x y ≡ Less → cmp y x ≡ Less → P
   not_below o x y a b = let turned : Less ≡ ordering_reverse Less = sym a ∙ (o.antisymm x y ∙ ap ordering_reverse b) in let no : ⊥ = cc in absurd no
 

@@ -8,6 +8,7 @@ use Rattle.std.specs.Cmp.{IsTotalOrder}
 use Rattle.std.specs.Ordering.{int_cmp}
 use Rattle.std.proofs.lemmas.Cmp.{int_cmp_total, on_total}
 use Rattle.std.proofs.lemmas.List.Folds.{flat_map-map}
+use Rattle.std.proofs.lemmas.List.Kept.{IsStrictlySortedBy-filter}
 use Rattle.sql_values.specs.declared.places.Interval.{Interval}
 use Rattle.sql_values.specs.declared.table.TableDef.{TableDef}
 use Rattle.sql_values.specs.declared.tree.Cond.{Cond}
@@ -21,7 +22,7 @@ use Rattle.part_rules.specs.Pruned.{IsPruned}
 use Rattle.part_rules.proofs.KeptKeys.{conditions_keep_keys}
 use Rattle.plain_tables.specs.Rows.{Row, key_of, HasKey, by_key, Rises, holds_on, kept}
 use Rattle.plain_tables.specs.Partitions.{lies_in, rows_in, IsTable, IsMerged, may_keep, PartitionsAreMerged, RowsMergeInOneWay}
-use Rattle.plain_tables.proofs.Members.{all_of, kept_passes, passes_kept, in_lists, from_list, rises_kept, one_list}
+use Rattle.plain_tables.proofs.Members.{all_of, kept_passes, passes_kept, in_lists, from_list, one_list}
 
 pub keys_in_order : (def : TableDef) → IsTotalOrder (by_key def)
 keys_in_order def = on_total (key_of def) int_cmp_total
@@ -49,7 +50,7 @@ partitions_are_merged def rule rows cond keys parts own table are pruned =
     let found : ℕ → List Row = λ p. kept def cond (rows_in def rule p rows) in
     let flat : flat_map (λ (l : List Row). l) (map found parts) ≡ flat_map found parts = flat_map-map (λ (l : List Row). l) found parts in
     record {
-      rises = rises_kept (by_key def) (holds_on def cond) rows table.rises;
+      rises = IsStrictlySortedBy-filter (by_key def) (holds_on def cond) rows table.rises;
       rows = λ row. (
         (λ c. let all = kept_passes (holds_on def cond) rows row c in
           let at = placed def rule cond keys parts row (part rule (key_of def row)) refl (all_of (λ r. IsSome (part rule (key_of def r))) rows row table.placed all.0) own (all_of (HasKey def) rows row table.keyed all.0) all.1 are pruned in

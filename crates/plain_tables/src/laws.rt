@@ -1,5 +1,6 @@
 //! What holds of plain tables and their partitions.
 
+ghost use Rattle.plain_tables.specs.Inserts.{FoundKeysTell, PutsKeepTables, PutsArePlaced};
 ghost use Rattle.plain_tables.specs.Partitions.{PartitionsAreMerged, RowsMergeInOneWay};
 
 /// Lists of rows merge to one list.
@@ -10,4 +11,19 @@ pub fn rows_merge_in_one_way()
 /// The rows that a condition keeps are those that it keeps in the partitions of its keys, merged.
 pub fn partitions_are_merged()
     ensures { PartitionsAreMerged }
+{}
+
+/// Whether a new key is taken is told by the rows that have one of the new keys.
+pub fn found_keys_tell()
+    ensures { FoundKeysTell }
+{}
+
+/// Rows put into a table leave a table.
+pub fn puts_keep_tables()
+    ensures { PutsKeepTables }
+{}
+
+/// Where rows are put into a table, each partition has its own of them put into it.
+pub fn puts_are_placed()
+    ensures { PutsArePlaced }
 {}
