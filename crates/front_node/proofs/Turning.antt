@@ -4,11 +4,11 @@ use Rattle.std.specs.Option.{option_or}
 use Rattle.my_messages.specs.declared.reply.Reply.{Reply}
 use Rattle.fixed_text.specs.declared.link.LinkRequest.{LinkRequest}
 use Rattle.fixed_text.specs.declared.link.LinkAnswer.{LinkAnswer}
-use Rattle.front_core.specs.declared.event.Output.{Output}
-use Rattle.front_core.specs.declared.event.Event.TheVariants.{Statement as Asked}
-use Rattle.front_core.specs.declared.event.Outputs.{Outputs}
-use Rattle.front_core.specs.Core.{Front, IsStep, work_of, rests, answers_awaited}
-use Rattle.front_core.specs.Outputs.{sends, outputs_of}
+use Rattle.fixed_core.specs.declared.event.Output.{Output}
+use Rattle.fixed_core.specs.declared.event.Event.TheVariants.{Statement as Asked}
+use Rattle.fixed_core.specs.declared.event.Outputs.{Outputs}
+use Rattle.fixed_core.specs.Core.{Front, IsStep, work_of, rests, answers_awaited}
+use Rattle.fixed_core.specs.Outputs.{sends, outputs_of}
 use Rattle.front_node.specs.Asking.{Busy, Node, Turn, GoesOn, Turns, Runs, node_of, is_over, is_none_left, reply_in}
 use Rattle.front_node.proofs.RepliesIn.{reply_in-append, or_assoc, or_none}
 

@@ -5,12 +5,12 @@ use Rattle.fixed_text.specs.declared.link.LinkRequest.{LinkRequest}
 use Rattle.fixed_text.specs.declared.link.LinkRequest.TheVariants.{Scan, Put}
 use Rattle.fixed_text.specs.declared.link.LinkAnswer.{LinkAnswer}
 use Rattle.my_messages.specs.declared.reply.Reply.{Reply}
-use Rattle.front_core.specs.declared.event.Event.TheVariants.{Statement as Asked, Got}
-use Rattle.front_core.specs.declared.event.Output.{Output}
-use Rattle.front_core.specs.declared.event.Output.TheVariants.{Send, Await, Decided, Acked, Answer}
-use Rattle.front_core.specs.declared.event.Outputs.{Outputs}
-use Rattle.front_core.specs.Core.{Front, IsStep, work_of, rests, answers_awaited, is_rows, is_done}
-use Rattle.front_core.specs.Outputs.{sends, outputs_of}
+use Rattle.fixed_core.specs.declared.event.Event.TheVariants.{Statement as Asked, Got}
+use Rattle.fixed_core.specs.declared.event.Output.{Output}
+use Rattle.fixed_core.specs.declared.event.Output.TheVariants.{Send, Await, Decided, Acked, Answer}
+use Rattle.fixed_core.specs.declared.event.Outputs.{Outputs}
+use Rattle.fixed_core.specs.Core.{Front, IsStep, work_of, rests, answers_awaited, is_rows, is_done}
+use Rattle.fixed_core.specs.Outputs.{sends, outputs_of}
 
 -- the answer has its request's form
 abbrev pub has_form : LinkRequest → LinkAnswer → Bool

@@ -3,13 +3,13 @@ ghost use Rattle.std.specs.Prelude.{◌≡◌, ◌++◌, ◌∷◌, [], List, Op
 ghost use Rattle.my_messages.specs.Reply.{HasBytes};
 ghost use Rattle.my_messages.specs.declared.reply.Reply.{Reply};
 ghost use Rattle.fixed_tables.specs.Replies.{no_memory_reply};
-ghost use Rattle.front_core.specs.declared.event.Output.{Output};
-ghost use Rattle.front_core.specs.Outputs.{sends, outputs_of, AnswersHaveBytes};
-ghost use Rattle.front_core.specs.Core.{work_of, answers_awaited};
+ghost use Rattle.fixed_core.specs.declared.event.Output.{Output};
+ghost use Rattle.fixed_core.specs.Outputs.{sends, outputs_of, AnswersHaveBytes};
+ghost use Rattle.fixed_core.specs.Core.{work_of, answers_awaited};
 ghost use Rattle.front_node.specs.Asking.{Busy, Node, Turn, Turns, Runs, reply_in};
 
 use crate::{Backs, Kernel};
-use front_core::{Event, Output, Outputs, no_memory};
+use fixed_core::{Event, Output, Outputs, no_memory};
 use list_types::{Bytes, Listed};
 use my_messages::Reply;
 use fixed_text::LinkRequest;

@@ -15,13 +15,13 @@ use Rattle.fixed_tables.specs.Table.{Table, rows_of, with_key, inserted}
 use Rattle.fixed_tables.specs.Replies.{ok_reply, duplicate_reply, full_reply, rows_reply}
 use Rattle.fixed_tables.specs.Exec.{new_row, executed, exec}
 use Rattle.fixed_tables.specs.Serial.{Plain, Follows}
-use Rattle.front_core.specs.declared.event.TxNo.{TxNo}
-use Rattle.front_core.specs.declared.work.Work.{Work}
-use Rattle.front_core.specs.declared.work.Work.TheVariants.{Idle, Checking}
-use Rattle.front_core.specs.declared.event.Output.{Output}
-use Rattle.front_core.specs.declared.event.Output.TheVariants.{Send, Await, Decided, Acked, Answer}
-use Rattle.front_core.specs.Core.{Stepped, begins, draws, answers_awaited, is_short_row}
-use Rattle.front_core.specs.Outputs.{sends, answers_in, decided_in, acked_in}
+use Rattle.fixed_core.specs.declared.event.TxNo.{TxNo}
+use Rattle.fixed_core.specs.declared.work.Work.{Work}
+use Rattle.fixed_core.specs.declared.work.Work.TheVariants.{Idle, Checking}
+use Rattle.fixed_core.specs.declared.event.Output.{Output}
+use Rattle.fixed_core.specs.declared.event.Output.TheVariants.{Send, Await, Decided, Acked, Answer}
+use Rattle.fixed_core.specs.Core.{Stepped, begins, draws, answers_awaited, is_short_row}
+use Rattle.fixed_core.specs.Outputs.{sends, answers_in, decided_in, acked_in}
 use Rattle.spider_cli.specs.BranchStore.{AreShort, row_at}
 use Rattle.spider_cli.specs.World.{World, Reply as Replies, happens, after_outputs, turns, client}
 use Rattle.spider_cli.specs.History.{is_same_tx, entries_with}

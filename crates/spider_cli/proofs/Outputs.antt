@@ -1,10 +1,10 @@
 use Rattle.std.proofs.Common.{◌≡◌, ℕ, zero, suc, ◌+◌, ◌-◌, ◌<◌, ◌++◌, List, [], ◌∷◌, true, false, refl, sym, ap, ◌∙◌, append_assoc, arith}
 use Rattle.std.proofs.lemmas.List.{append-nil}
 use Rattle.fixed_text.specs.declared.link.LinkRequest.{LinkRequest}
-use Rattle.front_core.specs.declared.event.Output.{Output}
-use Rattle.front_core.specs.Core.{work_of, rests}
-use Rattle.front_core.specs.Outputs.{sends}
-use Rattle.front_core.proofs.Sends.{sends-append}
+use Rattle.fixed_core.specs.declared.event.Output.{Output}
+use Rattle.fixed_core.specs.Core.{work_of, rests}
+use Rattle.fixed_core.specs.Outputs.{sends}
+use Rattle.fixed_core.proofs.Sends.{sends-append}
 use Rattle.spider_cli.specs.Transcript.{output_text, outputs_text}
 use Rattle.spider_cli.specs.Spoken.{spoken}
 use Rattle.spider_cli.specs.World.{World, the_session, after_outputs, turn, turns}

@@ -8,9 +8,9 @@ use Rattle.fixed_tables.specs.Exec.{exec}
 use Rattle.fixed_tables.specs.Solo.{Solo, solo_answers, solo_after}
 use Rattle.fixed_tables.specs.Serial as serial
 use Rattle.fixed_tables.specs.Serial.{Entry, Transaction, Follows}
-use Rattle.front_core.specs.declared.event.TxNo.{TxNo}
-use Rattle.front_core.specs.declared.event.Output.{Output}
-use Rattle.front_core.specs.Outputs.{decided_in}
+use Rattle.fixed_core.specs.declared.event.TxNo.{TxNo}
+use Rattle.fixed_core.specs.declared.event.Output.{Output}
+use Rattle.fixed_core.specs.Outputs.{decided_in}
 use Rattle.spider_cli.specs.BranchStore.{AreShort}
 use Rattle.spider_cli.specs.World.{World, client}
 use Rattle.spider_cli.specs.Schedule.{Line, Passed, Client, Broken, words_of, line_of, lines_of}

@@ -11,7 +11,7 @@ use Rattle.fixed_text.specs.Reading.{statement_of}
 use Rattle.fixed_text.proofs.Statements.{statement_sound}
 use Rattle.fixed_tables.specs.Table.{Table}
 use Rattle.fixed_tables.specs.Exec.{new_row}
-use Rattle.front_core.specs.Core.{is_short_row}
+use Rattle.fixed_core.specs.Core.{is_short_row}
 use Rattle.spider_cli.specs.BranchStore.{AreShort, row_at}
 
 -- No text of a remote table is longer than a column may hold.

@@ -10,7 +10,7 @@ use Rattle.spider_cli.specs.declared.world_play.Player.{Player}
 use Rattle.std.proofs.lemmas.Bool.Decides.{nat_tests}
 use Rattle.spider_cli.specs.declared.schedule.LineRule.{LineRule}
 use Rattle.spider_cli.specs.declared.schedule.LineRule.TheVariants.{UnknownWord}
-use Rattle.front_core.specs.declared.event.Output.{Output}
+use Rattle.fixed_core.specs.declared.event.Output.{Output}
 use Rattle.spider_cli.specs.World.{World, new_world}
 use Rattle.spider_cli.specs.Transcript.{outputs_text, end_text}
 use Rattle.spider_cli.specs.Spoken.{spoken}

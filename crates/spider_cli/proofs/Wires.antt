@@ -15,15 +15,15 @@ use Rattle.fixed_tables.specs.Table.{Table}
 use Rattle.fixed_tables.specs.Exec.{exec}
 use Rattle.fixed_tables.specs.Replies.{no_memory_reply}
 use Rattle.fixed_tables.specs.Solo.{Solo, solo_answers}
-use Rattle.front_core.specs.declared.work.Work.{Work}
-use Rattle.front_core.specs.declared.work.Work.TheVariants.{Idle}
-use Rattle.front_core.specs.declared.event.Event.TheVariants.{Open, Statement as Asked, Got}
-use Rattle.front_core.specs.declared.event.Output.{Output}
-use Rattle.front_core.specs.declared.event.Output.TheVariants.{Send, Await, Decided, Acked, Answer}
-use Rattle.front_core.specs.declared.event.Outputs.{Outputs}
-use Rattle.front_core.specs.declared.event.Outputs.TheVariants.{Given, NoRoom}
-use Rattle.front_core.specs.Core.{Front, new_front, IsStep, front_step, fits, work_of, rests, awaits, with_work, answers_awaited}
-use Rattle.front_core.specs.Outputs.{sends, outputs_of, answers_in}
+use Rattle.fixed_core.specs.declared.work.Work.{Work}
+use Rattle.fixed_core.specs.declared.work.Work.TheVariants.{Idle}
+use Rattle.fixed_core.specs.declared.event.Event.TheVariants.{Open, Statement as Asked, Got}
+use Rattle.fixed_core.specs.declared.event.Output.{Output}
+use Rattle.fixed_core.specs.declared.event.Output.TheVariants.{Send, Await, Decided, Acked, Answer}
+use Rattle.fixed_core.specs.declared.event.Outputs.{Outputs}
+use Rattle.fixed_core.specs.declared.event.Outputs.TheVariants.{Given, NoRoom}
+use Rattle.fixed_core.specs.Core.{Front, new_front, IsStep, front_step, fits, work_of, rests, awaits, with_work, answers_awaited}
+use Rattle.fixed_core.specs.Outputs.{sends, outputs_of, answers_in}
 use Rattle.front_node.specs.Asking.{Busy, Node, Turn, Turns, GoesOn, Runs, is_none_left, reply_in}
 use Rattle.front_node.specs.Session.{Exchange, Exchanged, Served, sent_to, Visit, IsTurnedAway}
 use Rattle.front_node.proofs.RepliesIn.{reply_in-append}

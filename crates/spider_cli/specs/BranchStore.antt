@@ -10,7 +10,7 @@ use Rattle.fixed_text.specs.declared.link.LinkRequest.TheVariants.{Scan, Put}
 use Rattle.fixed_text.specs.declared.link.LinkAnswer.{LinkAnswer}
 use Rattle.fixed_text.specs.declared.link.LinkAnswer.TheVariants.{Done, Rows, Refused}
 use Rattle.fixed_tables.specs.Table.{Table}
-use Rattle.front_core.specs.Core.{is_short_row}
+use Rattle.fixed_core.specs.Core.{is_short_row}
 
 -- the key of a row, the number in its first column
 abbrev pub key_of : List Value → Option ℤ

@@ -3,10 +3,10 @@ use Rattle.std.specs.List.{flat_map}
 use Rattle.my_messages.specs.declared.reply.Reply.{Reply}
 use Rattle.fixed_tables.specs.Serial.{Entry, Plain, Transaction, Serial}
 use Rattle.fixed_tables.specs.Solo.{new_solo, solo_answers, solo_after}
-use Rattle.front_core.specs.declared.event.TxNo.{TxNo}
-use Rattle.front_core.specs.declared.event.Output.{Output}
-use Rattle.front_core.specs.declared.event.Output.TheVariants.{Send, Await, Decided, Acked, Answer}
-use Rattle.front_core.specs.Outputs.{answers_in, decided_in, acked_in}
+use Rattle.fixed_core.specs.declared.event.TxNo.{TxNo}
+use Rattle.fixed_core.specs.declared.event.Output.{Output}
+use Rattle.fixed_core.specs.declared.event.Output.TheVariants.{Send, Await, Decided, Acked, Answer}
+use Rattle.fixed_core.specs.Outputs.{answers_in, decided_in, acked_in}
 use Rattle.spider_cli.specs.Schedule.{Line, Passed, Client, Broken, words_of}
 use Rattle.spider_cli.specs.Run.{Played, run_of_schedule}
 

@@ -1,7 +1,7 @@
 use Rattle.std.specs.Prelude.{ℕ, ◌+◌, ◌++◌, List, [], ◌∷◌, Option, Some, None, Result, Ok, Err}
 use Rattle.std.specs.List.{flat_map}
 use Rattle.spider_cli.specs.declared.schedule.LineRule.{LineRule}
-use Rattle.front_core.specs.declared.event.Output.{Output}
+use Rattle.fixed_core.specs.declared.event.Output.{Output}
 use Rattle.spider_cli.specs.World.{World, new_world, client}
 use Rattle.spider_cli.specs.Transcript.{outputs_text, end_text}
 use Rattle.spider_cli.specs.Spoken.{spoken}

@@ -1,5 +1,5 @@
 use Rattle.std.specs.Prelude.{ℕ, ◌++◌, List}
-use Rattle.front_core.specs.declared.event.Output.{Output}
+use Rattle.fixed_core.specs.declared.event.Output.{Output}
 use Rattle.spider_cli.specs.World.{World}
 use Rattle.spider_cli.specs.Transcript.{outputs_text}
 

@@ -2,11 +2,11 @@ use Rattle.std.specs.Prelude.{ℕ, zero, suc, ◌++◌, List, [], ◌∷◌, Boo
 use Rattle.fixed_text.specs.declared.link.LinkRequest.{LinkRequest}
 use Rattle.fixed_text.specs.declared.link.LinkAnswer.{LinkAnswer}
 use Rattle.fixed_tables.specs.Table.{Table}
-use Rattle.front_core.specs.declared.event.Event.{Event}
-use Rattle.front_core.specs.declared.event.Event.TheVariants as event
-use Rattle.front_core.specs.declared.event.Output.{Output}
-use Rattle.front_core.specs.Core.{Front, new_front, front_step, work_of, rests, answers_awaited}
-use Rattle.front_core.specs.Outputs.{sends}
+use Rattle.fixed_core.specs.declared.event.Event.{Event}
+use Rattle.fixed_core.specs.declared.event.Event.TheVariants as event
+use Rattle.fixed_core.specs.declared.event.Output.{Output}
+use Rattle.fixed_core.specs.Core.{Front, new_front, front_step, work_of, rests, answers_awaited}
+use Rattle.fixed_core.specs.Outputs.{sends}
 use Rattle.spider_cli.specs.BranchStore.{store_step}
 
 -- the number of the one session

@@ -1,12 +1,12 @@
 // The one backend: a map of rows by key.
 ghost use Rattle.std.specs.Prelude.{◌≡◌, [], true, Some, IfOk, OnErr, length, option_to_list};
 ghost use Rattle.std.specs.List.{list_all};
-ghost use Rattle.front_core.specs.Core.{is_done, is_short_row as short_row};
+ghost use Rattle.fixed_core.specs.Core.{is_done, is_short_row as short_row};
 ghost use Rattle.front_node.specs.Asking.{has_form};
 ghost use Rattle.spider_cli.specs.BranchStore.{AreShort, key_of, row_at, mismatch, puts, store_step};
 
 use crate::transcript::{push_has, push_number};
-use front_core::is_short_row;
+use fixed_core::is_short_row;
 use front_node::Backs;
 use list_types::Listed;
 use fixed_text::{LinkAnswer, LinkRequest};

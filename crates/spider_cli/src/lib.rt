@@ -5,7 +5,7 @@
 //! the transcript. `wire CONF` serves one session of packets of the MySQL protocol, from the first command on, between the input and the output.
 //! CONF has to be the one configuration that is built, [`FIRST_CONF`].
 //!
-//! The way of a line: `world_play` cuts it out of the input, `schedule` reads it, `world` hands its statement to `front_core` and
+//! The way of a line: `world_play` cuts it out of the input, `schedule` reads it, `world` hands its statement to `fixed_core` and
 //! that one's requests to `branch_store`, and `transcript` writes what the front gave out. `laws` states what the definitions
 //! say of one another: each answer is a plain session's, and the decided transactions are a serial history of one plain table.
 #![tactic(auto)]

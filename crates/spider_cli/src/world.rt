@@ -1,12 +1,12 @@
 // The front, the backend and the connection between them, in one.
 ghost use Rattle.std.specs.Prelude.{◌≡◌, ◌++◌, ◌∷◌, [], OnOk, option_to_list};
-ghost use Rattle.front_core.specs.Outputs.{sends};
+ghost use Rattle.fixed_core.specs.Outputs.{sends};
 ghost use Rattle.spider_cli.specs.Transcript.{outputs_text};
 
 use crate::branch_store::BranchStore;
 use crate::schedule::{Line, LineRule, read_line};
 use crate::transcript::push_output;
-use front_core::{Event, FrontState, Output, Outputs};
+use fixed_core::{Event, FrontState, Output, Outputs};
 use list_types::{Bytes, Listed};
 use fixed_text::{LinkAnswer, LinkRequest};
 use sql_values::ServerNo;

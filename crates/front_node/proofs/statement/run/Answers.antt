@@ -1,5 +1,5 @@
 use Rattle.std.proofs.Common.{◌∙◌, ◌++◌, ap}
-use Rattle.front_core.specs.Outputs.{sends, outputs_of}
+use Rattle.fixed_core.specs.Outputs.{sends, outputs_of}
 use Rattle.front_node.proofs.Turning.{runs_from}
 use Rattle.front_node.proofs.statement.run.Goals as goal
 

@@ -1,5 +1,5 @@
 use Rattle.std.proofs.Common.{◌≡◌, ◌++◌}
-use Rattle.front_core.specs.Outputs.{sends}
+use Rattle.fixed_core.specs.Outputs.{sends}
 use Rattle.spider_cli.specs.Transcript.{outputs_text}
 use Rattle.spider_cli.proofs.world.pass_on.Given as goal
 

@@ -1,6 +1,6 @@
 use Rattle.std.proofs.Common.{◌≡◌, true, sym, subst}
 use Rattle.std.specs.List.{list_all}
-use Rattle.front_core.specs.Core.{is_short_row}
+use Rattle.fixed_core.specs.Core.{is_short_row}
 use Rattle.spider_cli.proofs.Shorts.{short_found}
 use Rattle.spider_cli.proofs.branch_store.BranchStore.scan.Goals as goal
 

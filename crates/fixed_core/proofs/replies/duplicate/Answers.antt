@@ -1,8 +1,8 @@
 use Rattle.std.proofs.Common.{◌∙◌, ap, arith, codes, ◌++◌, w64, SFits, rules}
 use Rattle.std.specs.Fmt.{signed_decimal}
 use Rattle.std.proofs.lemmas.Int.{to_z-of_z}
-use Rattle.front_core.proofs.Lengths.{signed_is_short, between}
-use Rattle.front_core.proofs.replies.duplicate.Goals as goal
+use Rattle.fixed_core.proofs.Lengths.{signed_is_short, between}
+use Rattle.fixed_core.proofs.replies.duplicate.Goals as goal
 
 pub returns-clause-bytes : goal.returns-clause-bytes
 returns-clause-bytes c =

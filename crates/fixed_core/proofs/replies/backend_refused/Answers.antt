@@ -1,8 +1,8 @@
 use Rattle.std.proofs.Common.{◌∙◌, ◌++◌, [], sym, ap, arith, codes}
 use Rattle.std.proofs.lemmas.List.{append-nil}
 use Rattle.std.specs.Fmt.{decimal}
-use Rattle.front_core.proofs.Lengths.{decimal_is_short, between}
-use Rattle.front_core.proofs.replies.backend_refused.Goals as goal
+use Rattle.fixed_core.proofs.Lengths.{decimal_is_short, between}
+use Rattle.fixed_core.proofs.replies.backend_refused.Goals as goal
 
 pub returns-clause-bytes : goal.returns-clause-bytes
 returns-clause-bytes c =

@@ -16,15 +16,15 @@ use Rattle.fixed_text.specs.Reading.{statement_of}
 use Rattle.my_messages.specs.declared.reply.Reply.{Reply}
 use Rattle.fixed_tables.specs.Replies.{ok_reply, syntax_reply, duplicate_reply, refused_reply, full_reply, rows_reply}
 use Rattle.fixed_tables.specs.Exec.{new_row}
-use Rattle.front_core.specs.declared.event.TxNo.{TxNo}
-use Rattle.front_core.specs.declared.work.Work.{Work}
-use Rattle.front_core.specs.declared.work.Work.TheVariants.{Idle, Checking, Writing, Reading}
-use Rattle.front_core.specs.declared.event.Event.{Event}
-use Rattle.front_core.specs.declared.event.Event.TheVariants.{Open, Statement as Asked, Got, Closed}
-use Rattle.front_core.specs.declared.event.Output.{Output}
-use Rattle.front_core.specs.declared.event.Output.TheVariants.{Send, Await, Decided, Acked, Answer}
-use Rattle.front_core.specs.declared.event.Outputs.{Outputs}
-use Rattle.front_core.specs.declared.event.Outputs.TheVariants.{Given, NoRoom}
+use Rattle.fixed_core.specs.declared.event.TxNo.{TxNo}
+use Rattle.fixed_core.specs.declared.work.Work.{Work}
+use Rattle.fixed_core.specs.declared.work.Work.TheVariants.{Idle, Checking, Writing, Reading}
+use Rattle.fixed_core.specs.declared.event.Event.{Event}
+use Rattle.fixed_core.specs.declared.event.Event.TheVariants.{Open, Statement as Asked, Got, Closed}
+use Rattle.fixed_core.specs.declared.event.Output.{Output}
+use Rattle.fixed_core.specs.declared.event.Output.TheVariants.{Send, Await, Decided, Acked, Answer}
+use Rattle.fixed_core.specs.declared.event.Outputs.{Outputs}
+use Rattle.fixed_core.specs.declared.event.Outputs.TheVariants.{Given, NoRoom}
 
 -- THE STATE
 

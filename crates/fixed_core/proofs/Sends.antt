@@ -1,7 +1,7 @@
 use Rattle.std.proofs.Common.{◌≡◌, ◌++◌, List, [], ◌∷◌, refl, ap}
-use Rattle.front_core.specs.declared.event.Output.{Output}
-use Rattle.front_core.specs.declared.event.Output.TheVariants.{Send, Await, Decided, Acked, Answer}
-use Rattle.front_core.specs.Outputs.{sends}
+use Rattle.fixed_core.specs.declared.event.Output.{Output}
+use Rattle.fixed_core.specs.declared.event.Output.TheVariants.{Send, Await, Decided, Acked, Answer}
+use Rattle.fixed_core.specs.Outputs.{sends}
 
 -- the requests of outputs, one list after the other
 pub sends-append : (xs ys : List Output) → sends (xs ++ ys) ≡ sends xs ++ sends ys

@@ -2,8 +2,8 @@ use Rattle.std.proofs.Common.{◌≡◌, true, map, take}
 use Rattle.std.specs.List.{list_all, AllByRecursion}
 use Rattle.my_messages.specs.Reply.{RowFits}
 use Rattle.fixed_tables.specs.Replies.{value_cell}
-use Rattle.front_core.specs.Core.{is_short_row}
-use Rattle.front_core.proofs.replies.all_cells.Given as goal
+use Rattle.fixed_core.specs.Core.{is_short_row}
+use Rattle.fixed_core.proofs.replies.all_cells.Given as goal
 
 abbrev pub invariant-loop-row : goal.invariant-loop-row
 invariant-loop-row l = record {

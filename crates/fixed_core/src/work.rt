@@ -2,9 +2,9 @@
 ghost use Rattle.std.specs.Prelude.{◌≡◌, ◌∷◌, [], IfOk, Some};
 ghost use Rattle.my_messages.specs.Reply.{HasBytes};
 ghost use Rattle.fixed_tables.specs.Exec.{new_row};
-ghost use Rattle.front_core.specs.Outputs.{AnswersHaveBytes};
+ghost use Rattle.fixed_core.specs.Outputs.{AnswersHaveBytes};
 ghost use Rattle.std.specs.List.{list_all};
-ghost use Rattle.front_core.specs.Core.{asks as asked, is_short as short_value, is_short_row as short_row, is_rows as rows_form, is_done as done_form};
+ghost use Rattle.fixed_core.specs.Core.{asks as asked, is_short as short_value, is_short_row as short_row, is_rows as rows_form, is_done as done_form};
 
 use crate::{Output, TxNo, replies};
 use list_types::Listed;
@@ -81,7 +81,7 @@ fn committed(alloc: Global, tx: TxNo, reply: Reply) -> Result<Listed<Output>, Al
 impl Work {
     ghost use Rattle.std.specs.Prelude.{◌≡◌, ◌<◌, ◌+◌, ◌-◌, ◌^◌, true, [], IfOk, OnErr, Some};
     ghost use Rattle.fixed_text.specs.Reading.{statement_of};
-    ghost use Rattle.front_core.specs.Core.{begins, draws, refuses, commits, got, writes, awaits, is_idle as rests, answers_awaited as awaited};
+    ghost use Rattle.fixed_core.specs.Core.{begins, draws, refuses, commits, got, writes, awaits, is_idle as rests, answers_awaited as awaited};
 
     /// Whether no statement is at work.
     pub fn is_idle(&self) -> bool
@@ -294,7 +294,7 @@ pub fn is_done(answer: &LinkAnswer) -> bool
 
 impl Work {
     ghost use Rattle.std.specs.Prelude.{◌≡◌, Some};
-    ghost use Rattle.front_core.specs.Core.{awaits as may_come};
+    ghost use Rattle.fixed_core.specs.Core.{awaits as may_come};
 
     /// Whether the answer has the form of the one that is awaited.
     pub fn awaits(&self, answer: &LinkAnswer) -> bool

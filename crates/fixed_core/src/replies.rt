@@ -4,7 +4,7 @@ ghost use Rattle.std.specs.Fmt.{signed_decimal};
 ghost use Rattle.std.specs.List.{list_all, AllByRecursion};
 ghost use Rattle.my_messages.specs.Reply.{HasBytes, RowFits};
 ghost use Rattle.fixed_tables.specs.Replies.{ok_reply, syntax_reply, duplicate_reply, refused_reply, full_reply, no_memory_reply, value_column, text_of, value_cell, rows_reply};
-ghost use Rattle.front_core.specs.Core.{is_short, is_short_row};
+ghost use Rattle.fixed_core.specs.Core.{is_short, is_short_row};
 
 use list_types::{Listed, Text};
 use my_messages::{CellRow, CellRows, Column, Reply};

@@ -15,7 +15,7 @@ pub struct FrontState {
 }
 
 impl Model for FrontState {
-    ghost use Rattle.front_core.specs.Core.{Front};
+    ghost use Rattle.fixed_core.specs.Core.{Front};
 
     ghost Value = { Front };
 
@@ -25,10 +25,10 @@ impl Model for FrontState {
 impl FrontState {
     ghost use Rattle.std.specs.Prelude.{◌≡◌, true, List, [], is_some};
     ghost use Rattle.fixed_text.specs.Reading.{statement_of};
-    ghost use Rattle.front_core.specs.Outputs.{outputs_of, AnswersHaveBytes};
-    ghost use Rattle.front_core.specs.Core.{new_front, IsStep, fits, rests, awaits, work_of, opened, closed, begun, begins, got_by, with_work, answers_awaited};
-    ghost use Rattle.front_core.specs.declared.work.Work.TheVariants.{Idle};
-    ghost use Rattle.front_core.specs.declared.event.Output.{Output};
+    ghost use Rattle.fixed_core.specs.Outputs.{outputs_of, AnswersHaveBytes};
+    ghost use Rattle.fixed_core.specs.Core.{new_front, IsStep, fits, rests, awaits, work_of, opened, closed, begun, begins, got_by, with_work, answers_awaited};
+    ghost use Rattle.fixed_core.specs.declared.work.Work.TheVariants.{Idle};
+    ghost use Rattle.fixed_core.specs.declared.event.Output.{Output};
 
     /// The front as it starts, with boot 1. It takes no memory.
     pub fn start(alloc: Global) -> FrontState

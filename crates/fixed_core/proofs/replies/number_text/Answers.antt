@@ -1,8 +1,8 @@
 use Rattle.std.proofs.Common.{◌∙◌, arith, ap, length, w64, SFits, rules}
 use Rattle.std.specs.Fmt.{signed_decimal}
 use Rattle.std.proofs.lemmas.Int.{to_z-of_z}
-use Rattle.front_core.proofs.Lengths.{signed_is_short}
-use Rattle.front_core.proofs.replies.number_text.Goals as goal
+use Rattle.fixed_core.proofs.Lengths.{signed_is_short}
+use Rattle.fixed_core.proofs.replies.number_text.Goals as goal
 
 pub returns-clause-short : goal.returns-clause-short
 returns-clause-short c =

@@ -5,11 +5,11 @@ use Rattle.fixed_text.specs.declared.link.LinkRequest.{LinkRequest}
 use Rattle.my_messages.specs.declared.reply.Reply.{Reply}
 use Rattle.my_messages.specs.Reply.{HasBytes}
 use Rattle.fixed_tables.specs.Replies.{no_memory_reply}
-use Rattle.front_core.specs.declared.event.TxNo.{TxNo}
-use Rattle.front_core.specs.declared.event.Output.{Output}
-use Rattle.front_core.specs.declared.event.Output.TheVariants.{Send, Await, Decided, Acked, Answer}
-use Rattle.front_core.specs.declared.event.Outputs.{Outputs}
-use Rattle.front_core.specs.declared.event.Outputs.TheVariants.{Given, NoRoom}
+use Rattle.fixed_core.specs.declared.event.TxNo.{TxNo}
+use Rattle.fixed_core.specs.declared.event.Output.{Output}
+use Rattle.fixed_core.specs.declared.event.Output.TheVariants.{Send, Await, Decided, Acked, Answer}
+use Rattle.fixed_core.specs.declared.event.Outputs.{Outputs}
+use Rattle.fixed_core.specs.declared.event.Outputs.TheVariants.{Given, NoRoom}
 
 -- the requests, each with its server
 abbrev pub sends : List Output → List (ℕ × LinkRequest)
