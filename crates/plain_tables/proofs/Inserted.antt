@@ -143,7 +143,7 @@ puts_are_placed def rule rows (row ∷ more) p table news =
 
 -- TAKEN KEYS
 
-same_taken : (s t : ℤ → Bool) (keys : List ℤ) → ((key : ℤ) → list_any (int_eq key) keys ≡ true → s key ≡ t key) → first_taken s keys ≡ first_taken t keys
+pub same_taken : (s t : ℤ → Bool) (keys : List ℤ) → ((key : ℤ) → list_any (int_eq key) keys ≡ true → s key ≡ t key) → first_taken s keys ≡ first_taken t keys
 unfolding first_taken
 same_taken s t [] same = refl
 same_taken s t (key ∷ keys) same =

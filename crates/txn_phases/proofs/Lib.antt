@@ -1,0 +1,4 @@
+pub mod Marks
+pub mod Puts
+pub mod Taken
+pub mod Weighed

@@ -1,0 +1,4 @@
+pub mod Deeds
+pub mod Phases
+pub mod Sorting
+pub mod Weights

@@ -1,0 +1,365 @@
+ghost use Rattle.std.specs.Prelude.{◌≡◌};
+ghost use Rattle.txn_phases.specs.Phases.{is_begun as begins_branch};
+
+use crate::deed::is_long;
+use crate::inserting::{Inserting, inserting};
+use crate::forms::{is_done, is_rows};
+use crate::merging::merged;
+use crate::owed::{Owed, mark};
+use crate::requests::{Asks, Word, scans, servers_of, to_all, to_begun};
+use crate::{Branches, Deed, Ending, Outcome, Phase, Progress, Refusal, Stage, Targets};
+use list_types::Listed;
+use sql_text::LinkAnswer;
+use sql_values::{Cond, Kind, LockMode, Name, Rows, ServerNo, ServerNos};
+use std::alloc::{AllocError, Global};
+use std::mem;
+
+/// The kinds of a table's columns, in order.
+pub type Kinds = Listed<Kind>;
+
+/// What is asked of each link.
+#[derive(Debug, Drop)]
+pub struct TableScan {
+    /// The key column's name.
+    pub key: Name,
+    /// The key column's place.
+    pub place: u32,
+    pub kinds: Kinds,
+    /// Of which rows. Columns stand without their table.
+    pub cond: Option<Cond>,
+    pub lock: LockMode,
+}
+
+/// A statement at work, with its transaction.
+#[derive(Debug, Drop)]
+pub struct Job {
+    pub(crate) branches: Branches,
+    pub(crate) targets: Targets,
+    pub(crate) scan: TableScan,
+    pub(crate) deed: Deed,
+    pub(crate) phase: Phase,
+    /// Who was asked in this phase, in order.
+    pub(crate) asked: ServerNos,
+    /// How many of them have answered.
+    pub(crate) heard: usize,
+    /// The first refusal of this phase.
+    pub(crate) refused: Option<Refusal>,
+    /// The rows that count, by partition.
+    pub(crate) found: Listed<Rows>,
+}
+
+impl Phase {
+    ghost use Rattle.std.specs.Prelude.{◌≡◌};
+    ghost use Rattle.txn_phases.specs.Phases.{is_scanning as scans_now, is_open as open_now, is_starting as starts_now, stage_of};
+
+    fn is_starting(&self) -> bool
+        ensures { result ≡ starts_now self.now }
+    {
+        match self {
+            Phase::Starting => true,
+            _ => false,
+        }
+    }
+
+    fn is_scanning(&self) -> bool
+        ensures { result ≡ scans_now self.now }
+    {
+        match self {
+            Phase::Scanning => true,
+            _ => false,
+        }
+    }
+
+    /// Whether a refusal gives the statement up.
+    fn is_open(&self) -> bool
+        ensures { result ≡ open_now self.now }
+    {
+        match self {
+            Phase::Starting
+            | Phase::Scanning
+            | Phase::Putting(_)
+            | Phase::Ending(_)
+            | Phase::Preparing(_) => true,
+            Phase::Committing(_) | Phase::RollingBack(_) | Phase::Over => false,
+        }
+    }
+
+    fn stage(&self) -> Stage
+        ensures { result ≡ stage_of self.now }
+    {
+        match self {
+            Phase::Starting => Stage::Starting,
+            Phase::Scanning | Phase::Putting(_) | Phase::Ending(_) | Phase::Preparing(_) => {
+                Stage::Open
+            }
+            Phase::Committing(_) | Phase::RollingBack(_) | Phase::Over => Stage::Over,
+        }
+    }
+}
+
+impl Job {
+    ghost use Rattle.std.specs.Prelude.{◌≡◌, ◌+◌, ◌<◌, [], true, length, IfOk, OnErr, Some, None};
+    ghost use Rattle.txn_phases.specs.Phases.{new_job, awaits as may_come, counts_at, marked, with_branches, with_found, rows_if, with_refusal, keeps, noted, owed_of, owed_noted, entering, asking, finished, gives_up as gives_up_by_rule, ends as ends_by_rule, selects as selects_by_rule, inserts as inserts_by_rule, owed_at, concluded, decided, follows, leaves, goes_on as goes_on_by_rule, hears, begins, server_at};
+    ghost use Rattle.txn_phases.specs.declared.phase.Stage.{Stage};
+    ghost use Rattle.txn_phases.specs.Deeds.{merged as merged_meant};
+
+    /// A statement that is to scan these links, at these servers: each server of a link has its branch, none of which is begun. It takes no memory.
+    pub fn new(
+        alloc: Global,
+        branches: Branches,
+        targets: Targets,
+        scan: TableScan,
+        deed: Deed,
+    ) -> Job
+        ensures { result ≡ new_job branches targets scan deed }
+    {
+        Job {
+            branches,
+            targets,
+            scan,
+            deed,
+            phase: Phase::Starting,
+            asked: Listed::new(alloc),
+            heard: 0,
+            refused: None,
+            found: Listed::new(alloc),
+        }
+    }
+
+    /// Whether an answer is due, and this one has its form.
+    pub fn awaits(&self, answer: &LinkAnswer) -> bool
+        ensures { result ≡ may_come self.now answer.now }
+    {
+        if self.heard >= self.asked.len() {
+            return false;
+        }
+        if self.phase.is_scanning() {
+            return is_rows(self.scan.kinds.as_slice(), answer);
+        }
+        is_done(answer)
+    }
+
+    /// Whether the rows of the link that answers next count.
+    fn is_counting(&self) -> bool
+        ensures { result ≡ counts_at self.now.targets self.now.heard }
+    {
+        match self.targets.as_slice().get(self.heard) {
+            Some(target) => target.counts,
+            None => false,
+        }
+    }
+
+    /// The job with what the answer says. After want of memory it owes what it owes then, too.
+    fn note(&mut self, alloc: Global, answer: LinkAnswer) -> Result<(), AllocError>
+        requires { self.old.heard < length self.old.asked }
+        ensures noted { IfOk result (λ _. self.new ≡ noted self.old answer) }
+        ensures owed { OnErr result (owed_of self.new ≡ owed_noted self.old answer) }
+    {
+        let server = self.asked.as_slice()[self.heard];
+        let counts = self.phase.is_scanning() && self.is_counting();
+        if self.phase.is_starting() {
+            self.mark(alloc, is_begun(&answer));
+        }
+        self.heard += 1;
+        self.keep(server, counts, answer)
+    }
+
+    /// The branch whose START was answered was begun, or wasn't.
+    fn mark(&mut self, alloc: Global, begun: bool)
+        ensures { self.new ≡ with_branches self.old (marked self.old.heard begun self.old.branches) }
+    {
+        let branches = mem::replace(&mut self.branches, Listed::new(alloc));
+        self.branches = mark(branches, self.heard, begun);
+    }
+
+    /// Rows that count are kept, and the first refusal.
+    fn keep(
+        &mut self,
+        server: ServerNo,
+        counts: bool,
+        answer: LinkAnswer,
+    ) -> Result<(), AllocError>
+        ensures kept { IfOk result (λ _. self.new ≡ keeps server counts answer self.old) }
+        ensures owed { OnErr result (owed_of self.new ≡ owed_of self.old) }
+    {
+        match answer {
+            LinkAnswer::Rows(rows) => self.keep_rows(counts, rows),
+            LinkAnswer::Refused { number, message } => {
+                self.keep_refusal(Refusal {
+                    server,
+                    number,
+                    message,
+                });
+                Ok(())
+            }
+            LinkAnswer::Done(_count) => Ok(()),
+            LinkAnswer::Cells(_cells) => Ok(()),
+            LinkAnswer::Xids(_xids) => Ok(()),
+        }
+    }
+
+    fn keep_rows(&mut self, counts: bool, rows: Rows) -> Result<(), AllocError>
+        ensures kept { IfOk result (λ _. self.new ≡ with_found self.old (rows_if counts rows)) }
+        ensures owed { OnErr result (owed_of self.new ≡ owed_of self.old) }
+    {
+        if counts {
+            self.found.push(rows)?;
+        }
+        Ok(())
+    }
+
+    /// The first refusal of a phase is kept.
+    fn keep_refusal(&mut self, refusal: Refusal)
+        ensures { self.new ≡ with_refusal self.old refusal }
+    {
+        if self.refused.is_none() {
+            self.refused = Some(refusal);
+        }
+    }
+
+    /// A new phase begins, in which these servers are asked. It takes no memory.
+    fn enter(&mut self, alloc: Global, phase: Phase, asked: ServerNos)
+        ensures { self.new ≡ entering self.old phase asked }
+    {
+        self.phase = phase;
+        self.asked = asked;
+        self.heard = 0;
+        self.refused = None;
+        self.found = Listed::new(alloc);
+    }
+
+    /// The requests of a new phase go out. After want of memory nothing has changed.
+    fn ask(&mut self, alloc: Global, phase: Phase, asks: Asks) -> Result<Progress, AllocError>
+        ensures asks { IfOk result (λ progress. (self.new, progress) ≡ asking self.old phase asks) }
+        ensures unchanged { OnErr result (self.new ≡ self.old) }
+    {
+        let asked = servers_of(alloc, asks.as_slice())?;
+        self.enter(alloc, phase, asked);
+        Ok(Progress::Asks(asks))
+    }
+
+    /// It takes no memory.
+    fn finish(&mut self, alloc: Global, ending: Ending, outcome: Outcome) -> Progress
+        ensures { (self.new, result) ≡ finished self.old ending outcome }
+    {
+        self.enter(alloc, Phase::Over, Listed::new(alloc));
+        Progress::Over { ending, outcome }
+    }
+
+    /// The statement is given up.
+    fn give_up(&mut self, alloc: Global, outcome: Outcome) -> Result<Progress, AllocError>
+        ensures gives_up { IfOk result (λ progress. (self.new, progress) ≡ gives_up_by_rule self.old outcome) }
+        ensures unchanged { OnErr result (self.new ≡ self.old) }
+    {
+        let asks = to_begun(alloc, Word::Rollback, self.branches.as_slice())?;
+        if asks.is_empty() {
+            return Ok(self.finish(alloc, Ending::RolledBack, outcome));
+        }
+        self.ask(alloc, Phase::RollingBack(outcome), asks)
+    }
+
+    /// Its work is done, and its outcome stands.
+    fn end(&mut self, alloc: Global, outcome: Outcome) -> Result<Progress, AllocError>
+        ensures ends { IfOk result (λ progress. (self.new, progress) ≡ ends_by_rule self.old outcome) }
+        ensures unchanged { OnErr result (self.new ≡ self.old) }
+    {
+        let asks = to_begun(alloc, Word::End, self.branches.as_slice())?;
+        if asks.is_empty() {
+            return Ok(self.finish(alloc, Ending::Alone, outcome));
+        }
+        self.ask(alloc, Phase::Ending(outcome), asks)
+    }
+
+    /// The rows that were found are the answer.
+    fn select(&mut self, alloc: Global) -> Result<Progress, AllocError>
+        ensures selects { IfOk result (λ progress. (self.new, progress) ≡ selects_by_rule self.old (merged_meant self.old.scan.place self.old.found)) }
+        ensures owed { OnErr result ((stage : Stage) → owed_at stage self.new ≡ owed_at stage self.old) }
+    {
+        let found = mem::replace(&mut self.found, Listed::new(alloc));
+        let rows = merged(alloc, found, self.scan.place)?;
+        if is_long(rows.as_slice()) {
+            return self.give_up(alloc, Outcome::AnswerLimit);
+        }
+        self.end(alloc, Outcome::Found(rows))
+    }
+
+    /// Rows are added, or the statement is given up.
+    fn insert(&mut self, alloc: Global, inserting: Inserting) -> Result<Progress, AllocError>
+        ensures inserts { IfOk result (λ progress. (self.new, progress) ≡ inserts_by_rule self.old inserting) }
+        ensures unchanged { OnErr result (self.new ≡ self.old) }
+    {
+        match inserting {
+            Inserting::Refused(outcome) => self.give_up(alloc, outcome),
+            Inserting::Writes { outcome, asks } => {
+                if asks.is_empty() {
+                    return self.end(alloc, outcome);
+                }
+                self.ask(alloc, Phase::Putting(outcome), asks)
+            }
+        }
+    }
+
+    /// All rows were found.
+    fn conclude(&mut self, alloc: Global) -> Result<Progress, AllocError>
+        ensures concluded { IfOk result (λ progress. (self.new, progress) ≡ concluded self.old) }
+        ensures owed { OnErr result ((stage : Stage) → owed_at stage self.new ≡ owed_at stage self.old) }
+    {
+        let inserting = match &self.deed {
+            Deed::Select => return self.select(alloc),
+            Deed::Insert(news) => inserting(
+                alloc,
+                self.targets.as_slice(),
+                self.scan.place,
+                self.found.as_slice(),
+                news.as_slice(),
+            )?,
+        };
+        self.insert(alloc, inserting)
+    }
+
+    /// The transaction is decided.
+    fn decide(&mut self, alloc: Global, outcome: Outcome) -> Result<Progress, AllocError>
+        ensures decided { IfOk result (λ progress. (self.new, progress) ≡ decided self.old outcome) }
+        ensures unchanged { OnErr result (self.new ≡ self.old) }
+    {
+        let asks = to_begun(alloc, Word::Commit, self.branches.as_slice())?;
+        let asked = servers_of(alloc, asks.as_slice())?;
+        self.enter(alloc, Phase::Committing(outcome), asked);
+        Ok(Progress::Decides(asks))
+    }
+
+    /// What follows a phase in which nothing was refused.
+    fn follow(&mut self, alloc: Global, phase: Phase) -> Result<Progress, AllocError>
+        ensures follows { IfOk result (λ progress. (self.new, progress) ≡ follows phase self.old) }
+        ensures owed { OnErr result ((stage : Stage) → owed_at stage self.new ≡ owed_at stage self.old) }
+    {
+        match phase {
+            Phase::Starting => {
+                let asks = scans(alloc, &self.scan, self.targets.as_slice())?;
+                self.ask(alloc, Phase::Scanning, asks)
+            }
+            Phase::Scanning => self.conclude(alloc),
+            Phase::Putting(outcome) => self.end(alloc, outcome),
+            Phase::Ending(outcome) => {
+                let asks = to_begun(alloc, Word::Prepare, self.branches.as_slice())?;
+                self.ask(alloc, Phase::Preparing(outcome), asks)
+            }
+            Phase::Preparing(outcome) => self.decide(alloc, outcome),
+            Phase::Committing(outcome) => Ok(self.finish(alloc, Ending::Committed, outcome)),
+            Phase::RollingBack(outcome) => Ok(self.finish(alloc, Ending::RolledBack, outcome)),
+            Phase::Over => Ok(Progress::Waits(0)),
+        }
+    }
+}
+
+fn is_begun(answer: &LinkAnswer) -> bool
+    ensures { result ≡ begins_branch answer.now }
+{
+    match answer {
+        LinkAnswer::Done(_) => true,
+        LinkAnswer::Rows(_)
+        | LinkAnswer::Cells(_)
+        | LinkAnswer::Xids(_)
+        | LinkAnswer::Refused { .. } => false,
+    }
+}

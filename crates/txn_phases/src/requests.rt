@@ -1,0 +1,156 @@
+//! The requests of the phases.
+ghost use Rattle.std.specs.Prelude.{◌≡◌, ◌++◌, IfOk};
+ghost use Rattle.txn_phases.specs.Phases.{told as told_meant, begun_of, to_branches as to_these, scan_of as scan_meant, scans_of, puts_of, put_of, servers_of as servers_asked};
+
+use crate::deed::news_in;
+use crate::{Branch, PlacedRow, TableScan, Target};
+use list_types::Listed;
+use sql_text::{LinkRequest, Scan, ScanItems};
+use sql_values::{Cond, Rows, ServerNo, ServerNos};
+use std::alloc::{AllocError, Global};
+
+/// A request that goes to a server.
+#[derive(Debug, Drop)]
+pub struct Ask {
+    pub server: ServerNo,
+    pub request: LinkRequest,
+}
+
+/// Requests, in the order in which they go out and their answers are read.
+pub type Asks = Listed<Ask>;
+
+/// What a server is told about a branch.
+#[derive(Clone, Copy, Debug, PartialEq, Eq)]
+pub(crate) enum Word {
+    Start,
+    End,
+    Prepare,
+    Commit,
+    Rollback,
+}
+
+/// The word about a branch.
+fn told(word: Word, branch: &Branch) -> Result<LinkRequest, AllocError>
+    ensures { IfOk result (λ request. request ≡ told_meant word branch.now) }
+{
+    let xid = branch.xid.clone()?;
+    Ok(match word {
+        Word::Start => LinkRequest::Start(xid),
+        Word::End => LinkRequest::End(xid),
+        Word::Prepare => LinkRequest::Prepare(xid),
+        Word::Commit => LinkRequest::Commit(xid),
+        Word::Rollback => LinkRequest::Rollback(xid),
+    })
+}
+
+/// The word about each branch.
+pub(crate) fn to_all(alloc: Global, word: Word, branches: &[Branch]) -> Result<Asks, AllocError>
+    ensures { IfOk result (λ asks. asks ≡ to_these word branches.now) }
+{
+    let mut asks = Listed::new(alloc);
+    for branch in branches {
+        asks.push(Ask {
+            server: branch.server,
+            request: told(word, branch)?,
+        })?;
+    }
+    Ok(asks)
+}
+
+/// The word about each branch that was begun.
+pub(crate) fn to_begun(alloc: Global, word: Word, branches: &[Branch]) -> Result<Asks, AllocError>
+    ensures { IfOk result (λ asks. asks ≡ to_these word (begun_of branches.now)) }
+{
+    let mut asks = Listed::new(alloc);
+    for branch in branches {
+        if branch.begun {
+            asks.push(Ask {
+                server: branch.server,
+                request: told(word, branch)?,
+            })?;
+        }
+    }
+    Ok(asks)
+}
+
+fn copied(alloc: Global, cond: &Option<Cond>) -> Result<Option<Cond>, AllocError>
+    ensures { IfOk result (λ copy. copy ≡ cond.now) }
+{
+    match cond {
+        Some(cond) => Ok(Some(cond.copy(alloc)?)),
+        None => Ok(None),
+    }
+}
+
+fn scan_of(alloc: Global, scan: &TableScan, target: &Target) -> Result<LinkRequest, AllocError>
+    ensures { IfOk result (λ request. request ≡ scan_meant scan.now target.now) }
+{
+    Ok(LinkRequest::Scan(Scan {
+        table: target.remote.clone()?,
+        items: ScanItems::All,
+        cond: copied(alloc, &scan.cond)?,
+        order: Some(scan.key.clone()?),
+        limit: None,
+        lock: scan.lock,
+    }))
+}
+
+/// A scan of each link.
+pub(crate) fn scans(
+    alloc: Global,
+    scan: &TableScan,
+    targets: &[Target],
+) -> Result<Asks, AllocError>
+    ensures { IfOk result (λ asks. asks ≡ scans_of scan.now targets.now) }
+{
+    let mut asks = Listed::new(alloc);
+    for target in targets {
+        asks.push(Ask {
+            server: target.server,
+            request: scan_of(alloc, scan, target)?,
+        })?;
+    }
+    Ok(asks)
+}
+
+/// Puts rows at a link, where there are rows.
+fn push_put(asks: &mut Asks, target: &Target, rows: Rows) -> Result<(), AllocError>
+    ensures { IfOk result (λ _. asks.new ≡ asks.old ++ put_of target.now rows) }
+{
+    if !rows.is_empty() {
+        asks.push(Ask {
+            server: target.server,
+            request: LinkRequest::Put {
+                table: target.remote.clone()?,
+                rows,
+            },
+        })?;
+    }
+    Ok(())
+}
+
+/// Its partition's new rows to each link.
+pub(crate) fn puts(
+    alloc: Global,
+    targets: &[Target],
+    news: &[PlacedRow],
+) -> Result<Asks, AllocError>
+    ensures { IfOk result (λ asks. asks ≡ puts_of targets.now news.now) }
+{
+    let mut asks = Listed::new(alloc);
+    for target in targets {
+        push_put(&mut asks, target, news_in(alloc, news, target.part)?)?;
+    }
+    Ok(asks)
+}
+
+/// Who is asked.
+pub(crate) fn servers_of(alloc: Global, asks: &[Ask]) -> Result<ServerNos, AllocError>
+    ensures { IfOk result (λ servers. servers ≡ servers_asked asks.now) }
+{
+    let mut servers = Listed::new(alloc);
+    for ask in asks {
+        servers.push(ask.server)?;
+    }
+    Ok(servers)
+}
