@@ -296,13 +296,16 @@ owed_noted job a = owed_of (noted job a)
 abbrev pub owed_next : Owed → Option ℕ
 owed_next owed = if nat_lt owed.heard (length owed.asked) then Some (server_at owed.asked owed.heard) else None
 
-abbrev pub marked_at : Stage → ℕ → LinkAnswer → List Branch → List Branch
-marked_at stage.Starting place a branches = marked place (is_begun a) branches
-marked_at _ place a branches = branches
+abbrev pub owed_starting : Stage → Bool
+owed_starting stage.Starting = true
+owed_starting _ = false
+
+abbrev pub owed_heard : Owed → LinkAnswer → Owed
+owed_heard owed a = record { branches = marked_in (owed_starting owed.stage) owed.heard a owed.branches; asked = owed.asked; heard = owed.heard + 1; stage = owed.stage }
 
 -- an answer that was owed was read
 abbrev pub owed_hears : Owed → LinkAnswer → Owed
-owed_hears owed a = record { branches = marked_at owed.stage owed.heard a owed.branches; asked = owed.asked; heard = owed.heard + 1; stage = owed.stage }
+owed_hears owed a = if nat_lt owed.heard (length owed.asked) then owed_heard owed a else owed
 
 abbrev pub undone_in : Stage → List Branch → List Branch
 undone_in stage.Over branches = []

@@ -22,7 +22,7 @@ pub(crate) enum Inserting {
 }
 
 /// A new key that is taken gives the INSERT up, and so do too many rows; else each link gets its partition's rows.
-pub(crate) fn inserting(
+pub(crate) fn plan_insert(
     alloc: Global,
     targets: &[Target],
     place: u32,

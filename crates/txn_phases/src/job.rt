@@ -1,8 +1,8 @@
 ghost use Rattle.std.specs.Prelude.{◌≡◌};
-ghost use Rattle.txn_phases.specs.Phases.{is_begun as begins_branch};
+ghost use Rattle.txn_phases.specs.Phases.{is_begun as begins_branch, stage_of};
 
 use crate::deed::is_long;
-use crate::inserting::{Inserting, inserting};
+use crate::inserting::{Inserting, plan_insert};
 use crate::forms::{is_done, is_rows};
 use crate::merging::merged;
 use crate::owed::{Owed, mark};
@@ -306,7 +306,7 @@ impl Job {
     {
         let inserting = match &self.deed {
             Deed::Select => return self.select(alloc),
-            Deed::Insert(news) => inserting(
+            Deed::Insert(news) => plan_insert(
                 alloc,
                 self.targets.as_slice(),
                 self.scan.place,
@@ -350,9 +350,96 @@ impl Job {
             Phase::Over => Ok(Progress::Waits(0)),
         }
     }
+
+    /// What follows a phase in which nothing was refused, or nothing more is refused.
+    fn follow_on(&mut self, alloc: Global) -> Result<Progress, AllocError>
+        ensures follows { IfOk result (λ progress. (self.new, progress) ≡ follows self.old.phase self.old) }
+        ensures owed { OnErr result (owed_of self.new ≡ owed_of self.old) }
+    {
+        let stage = self.phase.stage();
+        let phase = mem::replace(&mut self.phase, Phase::Over);
+        match self.follow(alloc, phase) {
+            Ok(progress) => Ok(progress),
+            Err(error) => {
+                self.restore(stage);
+                Err(error)
+            }
+        }
+    }
+
+    /// This is owed again.
+    fn restore(&mut self, stage: Stage)
+        ensures { owed_of self.new ≡ owed_at stage self.old }
+    {
+        self.phase = phase_at(stage);
+    }
+
+    /// Every answer of the phase was read: what follows it, or, where one was a refusal, the statement is given up.
+    fn leave(&mut self, alloc: Global) -> Result<Progress, AllocError>
+        ensures leaves { IfOk result (λ progress. (self.new, progress) ≡ leaves self.old self.old.refused) }
+        ensures owed { OnErr result (owed_of self.new ≡ owed_of self.old) }
+    {
+        if !self.phase.is_open() {
+            return self.follow_on(alloc);
+        }
+        match mem::replace(&mut self.refused, None) {
+            Some(refusal) => self.give_up(alloc, Outcome::Refused(refusal)),
+            None => self.follow_on(alloc),
+        }
+    }
+
+    /// Takes the answer that is read next, and tells how the statement goes on: further answers of the phase are read, or the next phase begins.
+    ///
+    /// Where there is no memory the statement is over, and [`Job::into_owed`] tells what is left of it.
+    pub fn hear(&mut self, alloc: Global, answer: LinkAnswer) -> Result<Progress, AllocError>
+        requires { may_come self.old answer ≡ true }
+        ensures hears { IfOk result (λ progress. (self.new, progress) ≡ hears self.old answer) }
+        ensures owed { OnErr result (owed_of self.new ≡ owed_noted self.old answer) }
+    {
+        self.note(alloc, answer)?;
+        if self.heard < self.asked.len() {
+            return Ok(Progress::Waits(self.asked.as_slice()[self.heard]));
+        }
+        self.leave(alloc)
+    }
+
+    /// The first requests go out; where no server is asked, the outcome stands at once. After want of memory nothing was sent.
+    pub fn begin(&mut self, alloc: Global) -> Result<Progress, AllocError>
+        ensures begins { IfOk result (λ progress. (self.new, progress) ≡ begins self.old) }
+    {
+        let asks = to_all(alloc, Word::Start, self.branches.as_slice())?;
+        if asks.is_empty() {
+            return self.conclude(alloc);
+        }
+        self.ask(alloc, Phase::Starting, asks)
+    }
+
+    /// What is left of a statement that is given up where it stands. It takes no memory.
+    pub fn into_owed(self) -> Owed
+        ensures { result ≡ owed_of self }
+    {
+        let stage = self.phase.stage();
+        Owed {
+            branches: self.branches,
+            asked: self.asked,
+            heard: self.heard,
+            stage,
+        }
+    }
 }
 
-fn is_begun(answer: &LinkAnswer) -> bool
+/// A phase in which this is owed.
+fn phase_at(stage: Stage) -> Phase
+    ensures { stage_of result ≡ stage }
+{
+    match stage {
+        Stage::Starting => Phase::Starting,
+        Stage::Open => Phase::Scanning,
+        Stage::Over => Phase::Over,
+    }
+}
+
+pub(crate) fn is_begun(answer: &LinkAnswer) -> bool
     ensures { result ≡ begins_branch answer.now }
 {
     match answer {
