@@ -1,0 +1,7 @@
+pub mod Faults
+pub mod Inserts
+pub mod Laws
+pub mod Plans
+pub mod Refusals
+pub mod Selects
+pub mod Slots
