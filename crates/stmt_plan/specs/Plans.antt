@@ -38,10 +38,15 @@ work_of table (statement.Insert insert) = work.Insert (rows_of table insert.colu
 work_of table (statement.Select select) =
     work.Select (record { table = known_name select.tab; picks = picks_of (known_as table select.tab) select.items })
 
--- an INSERT asks for its keys, rising, without repeats; a SELECT for the rows of its WHERE
+-- the condition asks for these keys, rising, without repeats
+pub record AsksForKeys (table : TableDef) (keys : List ℤ) (pushed : Option Cond) : Type 0 where
+  pub list : List ℤ
+  pub rising : AreRising list keys
+  pub in_list : pushed ≡ Some (in_keys table list)
+
+-- an INSERT asks for its keys, a SELECT for the rows of its WHERE
 abbrev pub IsPushed : TableDef → Statement → Option Cond → Type 0
-IsPushed table (statement.Insert insert) pushed =
-    (keys : List ℤ) × AreRising keys (map (row_key table.key) (rows_of table insert.columns insert.rows)) × (pushed ≡ Some (in_keys table keys))
+IsPushed table (statement.Insert insert) pushed = AsksForKeys table (map (row_key table.key) (rows_of table insert.columns insert.rows)) pushed
 IsPushed table (statement.Select select) pushed = pushed ≡ option_map unqualified select.cond
 
 -- whether a row with this key may be asked for

@@ -2,7 +2,9 @@
 
 mod fault;
 mod inserting;
+mod key_conditions;
 mod planned;
+mod unqualified;
 
 pub use fault::StmtFault;
 pub use planned::{Pick, PickList, Picks, Plan, Work};
