@@ -25,7 +25,7 @@ found_none p (x ∷ xs) =
     step true kept n m x rest = grind arith
     step false kept n m x rest = grind arith
 
-found_mapped : {X Y : Type 0} (v : X → Y) (p : Y → Bool) (xs : List X) → filter p (map v xs) ≡ map v (filter (λ x. p (v x)) xs)
+pub found_mapped : {X Y : Type 0} (v : X → Y) (p : Y → Bool) (xs : List X) → filter p (map v xs) ≡ map v (filter (λ x. p (v x)) xs)
 found_mapped v p [] = refl
 found_mapped v p (x ∷ xs) = step (p (v x)) (found_mapped v p xs)
   where

@@ -1,5 +1,6 @@
 pub mod Chosen
 pub mod Faults
+pub mod Finished
 pub mod Inserts
 pub mod Laws
 pub mod Plans

@@ -3,7 +3,7 @@
 ghost use Rattle.std.specs.Prelude.{◌≡◌, ◌⊎◌, None, Some, IfOk, IfErr, OnOk};
 ghost use Rattle.sql_values.specs.KeySets.{AreKeys};
 ghost use Rattle.part_rules.specs.Placing.{IsRule};
-ghost use Rattle.part_rules.specs.Pruned.{IsPruned};
+ghost use Rattle.stmt_plan.specs.Finished.{IsFinished};
 ghost use Rattle.stmt_plan.specs.Inserts.{rows_of};
 ghost use Rattle.stmt_plan.specs.Plans.{IsTable, IsPlan, IsPushed, keeps_key};
 ghost use Rattle.stmt_plan.specs.Refusals.{refusal};
@@ -55,5 +55,67 @@ fn keys_asked(
     match cond {
         Some(cond) => keys_of(alloc, cond, table),
         None => Intervals::whole(alloc),
+    }
+}
+
+fn planned(
+    alloc: Global,
+    number: TableNo,
+    table: &TableDef,
+    rule: &Rule,
+    cond: Option<Cond>,
+    mode: LockMode,
+    work: Work,
+) -> Result<Plan, AllocError>
+    requires { IsRule rule.now }
+    ensures { IfOk result (λ plan. IsFinished number table.now rule.now cond mode work plan) }
+{
+    let keys = keys_asked(alloc, table, &cond)?;
+    let parts = prune(alloc, rule, &keys)?;
+    Ok(Plan {
+        table: number,
+        parts,
+        keys,
+        pushed: ScanItems::All,
+        cond,
+        limit: None,
+        mode,
+        work,
+    })
+}
+
+/// The plan of a statement on this table, whose number is handed on, or the first rule that it breaks.
+///
+/// The rules are, in this order: a column that the table doesn't have, one that may be one of several, a row with another number of values than
+/// columns, then by row and by column in the order of the statement NULL, a value of another type, a number out of range, a text too long, then a row
+/// whose key no partition takes, then a condition on values that can't be compared. Names of the table itself aren't compared: the caller has found it.
+///
+/// The cost of an INSERT is that of sorting its keys, beside one look at each of its values; names are looked up once.
+pub fn plan_on(
+    alloc: Global,
+    number: TableNo,
+    table: &TableDef,
+    rule: &Rule,
+    statement: &Statement,
+) -> Result<Plan, StmtFault>
+    requires rule { IsRule rule.now }
+    requires table { IsTable table.now }
+    ensures plan { IfOk result (λ plan. IsPlan number table.now rule.now statement.now plan) }
+    ensures ok { OnOk result (refusal table.now rule.now statement.now ≡ None) }
+    ensures err { IfErr result (λ fault. (fault ≡ StmtFault.NoMemory) ⊎ (refusal table.now rule.now statement.now ≡ Some fault)) }
+{
+    match statement {
+        Statement::Insert(statement) => {
+            let (cond, rows) = insert(alloc, table, rule, statement)?;
+            let mode = LockMode::Exclusive;
+            Ok(planned(alloc, number, table, rule, Some(cond), mode, Work::Insert(rows))?)
+        }
+        Statement::Select(statement) => match choose(alloc, table, statement) {
+            Ok((cond, picks)) => {
+                let mode = LockMode::Shared;
+                Ok(planned(alloc, number, table, rule, cond, mode, Work::Select(picks))?)
+            }
+            Err(fault) => Err(fault),
+        },
     }
 }
