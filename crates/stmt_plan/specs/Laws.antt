@@ -18,7 +18,6 @@ use Rattle.sql_text.specs.declared.statement.Tab.{Tab}
 use Rattle.stmt_plan.specs.declared.planned.Plan.{Plan}
 use Rattle.stmt_plan.specs.Inserts.{rows_of, row_key}
 use Rattle.stmt_plan.specs.Plans.{IsTable, IsPlan}
-use Rattle.stmt_plan.specs.Refusals.{refusal}
 use Rattle.stmt_plan.specs.Selects.{known_as, unqualified}
 
 -- where each column of a condition is known, the condition without qualifiers holds on exactly the same rows
@@ -36,5 +35,5 @@ NoRowIsMissed = (number : ℕ) (table : TableDef) (rule : Rule) (s : Statement) 
 -- the partition of each row that is inserted is one of the plan's
 abbrev pub InsertsAreCovered : Type 0
 InsertsAreCovered = (number : ℕ) (table : TableDef) (rule : Rule) (insert : Insert) (plan : Plan) (row : List Value) (p : ℕ) →
-    IsTable table → refusal table rule (statement.Insert insert) ≡ None → IsPlan number table rule (statement.Insert insert) plan →
+    IsPlan number table rule (statement.Insert insert) plan →
     Contains (rows_of table insert.columns insert.rows) row → part rule (row_key table.key row) ≡ Some p → Contains plan.parts p

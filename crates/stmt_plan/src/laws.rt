@@ -3,19 +3,16 @@
 ghost use Rattle.stmt_plan.specs.Laws.{UnqualifiedMeansTheSame, NoRowIsMissed, InsertsAreCovered};
 
 /// Where each column of a condition is known, the condition holds on the same rows without the names of tables.
-#[tactic(auto, using(crate::proofs::BareNames::unqualified_means_the_same))]
 pub fn unqualified_means_the_same()
     ensures { UnqualifiedMeansTheSame }
 {}
 
 /// A row on which a plan's condition holds lies in one of the plan's partitions.
-#[tactic(auto, using(crate::proofs::Covered::no_row_is_missed))]
 pub fn no_row_is_missed()
     ensures { NoRowIsMissed }
 {}
 
 /// The partition of each row that is inserted is one of the plan's.
-#[tactic(auto, using(crate::proofs::Covered::inserts_are_covered))]
 pub fn inserts_are_covered()
     ensures { InsertsAreCovered }
 {}
