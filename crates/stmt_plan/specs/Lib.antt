@@ -1,3 +1,4 @@
+pub mod Apart
 pub mod Chosen
 pub mod Faults
 pub mod Finished

@@ -31,7 +31,7 @@ struct Refused<'a> {
     why: StoreFault,
 }
 
-fn find_column<'a>(columns: &'a [ColumnDef], name: &Name) -> Option<&'a ColumnDef>
+pub(crate) fn find_column<'a>(columns: &'a [ColumnDef], name: &Name) -> Option<&'a ColumnDef>
     ensures { option_map (λ c. c.now) result ≡ find (is_named name.now) columns.now }
 {
     columns.iter().find(|column| column.name == *name)

@@ -15,9 +15,11 @@ mod key_conditions;
 pub mod laws;
 mod planned;
 mod planning;
+mod tables;
 mod unqualified;
 
 pub use fault::StmtFault;
 pub use planned::{Pick, PickList, Picks, Plan, Work};
 pub use planning::plan_on;
+pub use tables::is_table;
 
