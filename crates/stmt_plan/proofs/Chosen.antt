@@ -1,18 +1,17 @@
 -- The faults of a SELECT as the code finds them are its refusals.
-use Rattle.std.proofs.Common.{◌≡◌, ℕ, suc, zero, ◌+◌, ◌≤◌, ◌<◌, Bool, true, false, not, cond, eqb, ltb, List, [], ◌∷◌, ◌++◌, map, length, refl, ap, sym, ◌∙◌, arith, Option, Some, None, ◌⊎◌, inl, inr, filter, find, subst}
-use Rattle.std.specs.Prelude.{slice_get, nat_lt}
-use Rattle.std.specs.Option.{option_map, option_or, option_map_or}
-use Rattle.std.proofs.lemmas.Bool.{cases_Bool, both_ways}
+use Rattle.std.proofs.Common.{◌≡◌, ℕ, suc, ◌≤◌, Bool, true, false, cond, eqb, List, [], ◌∷◌, ◌++◌, length, refl, ap, sym, ◌∙◌, arith, Option, Some, None, ◌⊎◌, inl, inr, filter, find}
+use Rattle.std.specs.Prelude.{slice_get}
+use Rattle.std.specs.Option.{option_map, option_or}
+use Rattle.std.proofs.lemmas.Bool.{cases_Bool}
 use Rattle.std.proofs.lemmas.List.{append-nil, length-map}
 use Rattle.std.specs.Result.{result_err}
 use Rattle.std.specs.Cmp.Lexicographic.{pointwise, bytes_decides}
 use Rattle.std.proofs.lemmas.Bool.{and_parts}
-use Rattle.sql_values.specs.declared.checks.CheckFault.{CheckFault}
 use Rattle.sql_values.specs.declared.table.ColumnDef.{ColumnDef}
 use Rattle.sql_values.specs.declared.table.TableDef.{TableDef}
 use Rattle.sql_values.specs.declared.tree.ColumnName.{ColumnName}
 use Rattle.sql_values.specs.declared.tree.Cond.{Cond}
-use Rattle.sql_values.specs.Checks.{is_unknown, is_ambiguous, first_column, cond_columns, cond_fits, after_columns, named_fault, checked_cond}
+use Rattle.sql_values.specs.Checks.{is_unknown, is_ambiguous, first_column, cond_columns, cond_fits, after_columns, named_fault}
 use Rattle.sql_values.specs.Columns.{may_mean, may_qualify, columns_meant}
 use Rattle.part_rules.specs.declared.rule.Rule.{Rule}
 use Rattle.sql_text.specs.declared.statement.Select.{Select}
@@ -21,13 +20,13 @@ use Rattle.sql_text.specs.declared.statement.Statement.{Statement}
 use Rattle.sql_text.specs.declared.statement.Statement.TheVariants as statement
 use Rattle.stmt_plan.specs.declared.fault.StmtFault.{StmtFault}
 use Rattle.stmt_plan.specs.declared.fault.StmtFault.TheVariants.{NoColumn, Ambiguous, TypeMismatch, NoMemory}
-use Rattle.stmt_plan.specs.Chosen.{items_fault, cond_fault, where_fault, chosen_fault}
+use Rattle.stmt_plan.specs.Chosen.{items_fault, where_fault, chosen_fault}
 use Rattle.stmt_plan.specs.Faults.{fault_of_check}
 use Rattle.stmt_plan.specs.Plans.{IsTable}
 use Rattle.stmt_plan.specs.Refusals.{refusal, mismatch_in}
-use Rattle.stmt_plan.specs.Selects.{called, known_as, known_name, item_columns, named_columns}
+use Rattle.stmt_plan.specs.Selects.{called, known_name, item_columns, named_columns}
 use Rattle.stmt_plan.proofs.Meant.{found_mapped}
-use Rattle.stmt_plan.proofs.Seeks.{first-append, first-nil}
+use Rattle.stmt_plan.proofs.Seeks.{first-append}
 
 -- where what passes a test stands at one place, at most one does
 none_pass : {X : Type 0} (p : X → Bool) (xs : List X) → ((j : ℕ) (y : X) → slice_get xs j ≡ Some y → p y ≡ true → ⊥) → length (filter p xs) ≡ 0

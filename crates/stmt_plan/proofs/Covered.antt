@@ -1,11 +1,9 @@
 -- The partitions of a plan have all rows that it is about.
-use Rattle.std.proofs.Common.{◌≡◌, ℕ, suc, zero, ℤ, pos, negsuc, Bool, true, false, cond, not, ◌||◌, List, [], ◌∷◌, map, length, Option, Some, None, Result, Ok, Err, refl, arith, sym, ◌∙◌, ap, subst, option_and_then, unwrap_or}
+use Rattle.std.proofs.Common.{◌≡◌, ℕ, suc, zero, ℤ, pos, negsuc, Bool, true, false, cond, not, ◌||◌, List, [], ◌∷◌, map, Option, Some, None, Result, Ok, Err, refl, arith, sym, ◌∙◌, ap, subst, option_and_then, unwrap_or}
 use Rattle.std.specs.Prelude.{slice_get, FitsSigned}
 use Rattle.std.specs.Int.{w64}
 use Rattle.std.specs.List.{Contains, list_any}
 use Rattle.std.specs.Option.{option_map, option_map_or}
-use Rattle.std.specs.Ordering.{int_eq}
-use Rattle.std.proofs.lemmas.Bool.{both_ways}
 use Rattle.std.proofs.lemmas.Cmp.{int_eq_equiv}
 use Rattle.std.proofs.lemmas.Int.{ints}
 use Rattle.std.proofs.lemmas.Map.Views.{list_any-from_Contains}
@@ -18,11 +16,10 @@ use Rattle.sql_values.specs.declared.table.ColumnDef.{ColumnDef}
 use Rattle.sql_values.specs.declared.table.Kind.{Kind}
 use Rattle.sql_values.specs.declared.table.Kind.TheVariants.{BigInt, VarChar}
 use Rattle.sql_values.specs.declared.table.TableDef.{TableDef}
-use Rattle.sql_values.specs.declared.tree.ColumnName.{ColumnName}
 use Rattle.sql_values.specs.declared.tree.Comparison.TheVariants.{Equal}
 use Rattle.sql_values.specs.declared.tree.Cond.{Cond, Cond-F}
 use Rattle.sql_values.specs.declared.tree.Cond.TheFolds.{fold-roll-Cond}
-use Rattle.sql_values.specs.declared.tree.Cond.TheVariants.{In, rolls-In}
+use Rattle.sql_values.specs.declared.tree.Cond.TheVariants.{rolls-In}
 use Rattle.sql_values.specs.declared.value.Value.{Value}
 use Rattle.sql_values.specs.declared.value.Value.TheVariants as value
 use Rattle.sql_values.specs.Conditions.{cond_holds, compares}
@@ -117,6 +114,8 @@ inserts_are_covered number table rule insert plan row p is_plan there place =
     let small : is_big_int (row_key table.key row) ≡ true = Contains-mapped (row_of places) (λ (r : List Value). is_big_int (row_key table.key r) ≡ true) (λ literals. row_fits literals places table.key) insert.rows row there in
     let fits : FitsSigned w64 (row_key table.key row) = big_int_fits (row_key table.key row) small in
     let asked : Contains is_plan.cond.list (row_key table.key row) = (is_plan.cond.rising.same (row_key table.key row)).1 (Contains-map (row_key table.key) (rows_of table insert.columns insert.rows) row there) in
-    is_plan.parts.all p (row_key table.key row,
+    is_plan.parts.all p (
+      row_key table.key row,
       is_plan.keys (row_key table.key row) fits ∙ ap (λ (c : Option Cond). keeps_key table c (row_key table.key row)) is_plan.cond.in_list ∙ in_keeps table (row_key table.key row) is_plan.cond.list asked,
-      place)
+      place,
+    )

@@ -1,12 +1,10 @@
 -- Keys that were sorted and freed of repeats.
-use Rattle.std.proofs.Common.{◌≡◌, ℤ, List, [], refl, sym, ◌∙◌, subst}
-use Rattle.std.specs.List.{dedup, Contains}
-use Rattle.std.specs.List.Retain.{IsFiltered, DiffersFromLast}
-use Rattle.std.specs.List.Sorted.{IsPermutation, IsSorted, IsStrictlySortedBy}
-use Rattle.std.specs.Ordering.{int_cmp, int_eq, eq_by_cmp}
+use Rattle.std.proofs.Common.{◌≡◌, ℤ, List, refl, sym, subst}
+use Rattle.std.specs.List.{dedup}
+use Rattle.std.specs.List.Sorted.{IsPermutation, IsSorted}
+use Rattle.std.specs.Ordering.{int_cmp, int_eq}
 use Rattle.std.proofs.lemmas.Bool.Decides.{Decides-int_eq}
 use Rattle.std.proofs.lemmas.Cmp.{int_cmp_total, int_eq_equiv}
-use Rattle.std.proofs.lemmas.List.Filters.{dedup_is}
 use Rattle.std.proofs.lemmas.List.Kept.{IsStrictlySortedBy-dedup, Contains-dedup, Contains-from_dedup}
 use Rattle.std.proofs.lemmas.List.Sorted.{Contains-permutation, IsPermutation-sym}
 use Rattle.stmt_plan.specs.Inserts.{AreRising}
@@ -16,7 +14,7 @@ rising_of keys sorted moved up = record {
   sorted = IsStrictlySortedBy-dedup int_cmp_total (λ x y. refl) sorted up;
   same = λ k. (
     λ there. Contains-permutation sorted keys k (IsPermutation-sym keys sorted moved) (Contains-from_dedup int_eq sorted k there),
-    λ there. Contains-dedup int_eq_equiv (λ x y. (Decides-int_eq x y).0) sorted k (Contains-permutation keys sorted k moved there)
+    λ there. Contains-dedup int_eq_equiv (λ x y. (Decides-int_eq x y).0) sorted k (Contains-permutation keys sorted k moved there),
   );
 }
 

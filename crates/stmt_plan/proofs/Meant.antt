@@ -1,14 +1,13 @@
 -- What names of columns mean in one table.
-use Rattle.std.proofs.Common.{◌≡◌, ℕ, suc, zero, ◌+◌, ◌≤◌, ◌<◌, Bool, true, false, not, cond, eqb, ltb, List, [], ◌∷◌, ◌++◌, map, length, refl, ap, sym, ◌∙◌, arith, Option, Some, None, inl, inr, filter, find}
-use Rattle.std.specs.Prelude.{slice_get, nat_lt, ◌==◌}
+use Rattle.std.proofs.Common.{◌≡◌, ℕ, suc, ◌+◌, Bool, true, false, not, cond, List, [], ◌∷◌, map, length, refl, ap, sym, ◌∙◌, arith, Option, Some, None, filter}
+use Rattle.std.specs.Prelude.{nat_lt, ◌==◌}
 use Rattle.std.specs.List.{position, position_or_len}
 use Rattle.std.specs.Option.{is_none}
-use Rattle.std.proofs.lemmas.Bool.{cases_Bool}
 use Rattle.std.proofs.lemmas.List.{append-nil, length-map}
 use Rattle.sql_values.specs.declared.table.ColumnDef.{ColumnDef}
 use Rattle.sql_values.specs.declared.table.TableDef.{TableDef}
 use Rattle.sql_values.specs.declared.tree.ColumnName.{ColumnName}
-use Rattle.sql_values.specs.Checks.{is_unknown, is_ambiguous}
+use Rattle.sql_values.specs.Checks.{is_unknown}
 use Rattle.sql_values.specs.Columns.{may_mean, columns_meant}
 
 none_if : {X : Type 0} (n m : ℕ) (v : X) → is_none (cond (nat_lt n m) (Some v) None) ≡ not (nat_lt n m)

@@ -1,5 +1,5 @@
 -- The faults of a SELECT in the order in which the code finds them.
-use Rattle.std.specs.Prelude.{List, [], ◌∷◌, Option, Some, None, option_and_then}
+use Rattle.std.specs.Prelude.{[], ◌∷◌, Option, option_and_then}
 use Rattle.std.specs.Option.{option_map, option_or}
 use Rattle.std.specs.Result.{result_err}
 use Rattle.sql_values.specs.declared.table.TableDef.{TableDef}

@@ -1,5 +1,5 @@
 -- How refusals of single literals, names and conditions are told of a statement.
-use Rattle.std.specs.Prelude.{ℕ, List, [], ◌∷◌, Option, Some, None}
+use Rattle.std.specs.Prelude.{ℕ, List, [], ◌∷◌, Option, None}
 use Rattle.std.specs.Option.{option_or}
 use Rattle.sql_values.specs.declared.checks.CheckFault.{CheckFault}
 use Rattle.sql_values.specs.declared.checks.CheckFault.TheVariants as check

@@ -1,5 +1,5 @@
 -- What an INSERT stores: MySQL Reference Manual, "INSERT Statement".
-use Rattle.std.specs.Prelude.{◌≡◌, ℕ, ◌+◌, ◌==◌, ℤ, pos, Bool, true, false, ◌&&◌, not, List, [], ◌∷◌, ◌++◌, Option, Some, None, Result, Ok, Err, ◌↔◌, map, length, slice_get, nat_eq, option_and_then, option_to_list, unwrap_or, if◌then◌else◌}
+use Rattle.std.specs.Prelude.{ℕ, ◌+◌, ◌==◌, ℤ, pos, Bool, false, ◌&&◌, List, [], ◌∷◌, Option, Some, None, Result, Ok, Err, ◌↔◌, map, length, slice_get, nat_eq, option_and_then, option_to_list, unwrap_or, if◌then◌else◌}
 use Rattle.std.specs.List.{Contains, find, position, list_all, flat_map, zip}
 use Rattle.std.specs.List.Sorted.{IsStrictlySortedBy}
 use Rattle.std.specs.Option.{option_map, option_map_or, is_none, is_some, option_or}
@@ -14,13 +14,13 @@ use Rattle.sql_values.specs.declared.table.TableDef.{TableDef}
 use Rattle.sql_values.specs.declared.tree.Cond.{Cond}
 use Rattle.sql_values.specs.declared.tree.Cond.TheVariants.{In}
 use Rattle.sql_values.specs.declared.value.Value.{Value}
-use Rattle.sql_values.specs.declared.value.Value.TheVariants.{Number, Text}
+use Rattle.sql_values.specs.declared.value.Value.TheVariants.{Number}
 use Rattle.sql_values.specs.Expressions.{number_of}
 use Rattle.sql_values.specs.Storing.{stored}
 use Rattle.part_rules.specs.declared.rule.Rule.{Rule}
 use Rattle.part_rules.specs.Placing.{part}
 use Rattle.stmt_plan.specs.declared.fault.StmtFault.{StmtFault}
-use Rattle.stmt_plan.specs.declared.fault.StmtFault.TheVariants.{NoColumn, ColumnCount, NoPartition}
+use Rattle.stmt_plan.specs.declared.fault.StmtFault.TheVariants.{ColumnCount, NoPartition}
 use Rattle.stmt_plan.specs.Faults.{fault_of_store}
 
 -- the column has this name

@@ -1,5 +1,5 @@
 -- What a statement needs of its table's partitions.
-use Rattle.std.specs.Prelude.{◌≡◌, ℕ, ◌<◌, ◌^◌, ℤ, Bool, true, List, [], ◌∷◌, Option, Some, None, IsSomeAnd, length, map, slice_get}
+use Rattle.std.specs.Prelude.{◌≡◌, ℕ, ◌<◌, ◌^◌, ℤ, Bool, true, List, Option, Some, None, IsSomeAnd, length, map, slice_get}
 use Rattle.std.specs.Option.{option_map, option_map_or}
 use Rattle.sql_values.specs.declared.places.LockMode.{LockMode}
 use Rattle.sql_values.specs.declared.places.LockMode.TheVariants.{Shared, Exclusive}
@@ -11,7 +11,6 @@ use Rattle.sql_values.specs.KeySets.{AreKeys}
 use Rattle.part_rules.specs.declared.rule.Rule.{Rule}
 use Rattle.part_rules.specs.Keeps.{keeps}
 use Rattle.part_rules.specs.Pruned.{IsPruned}
-use Rattle.sql_text.specs.declared.link.ScanItems.{ScanItems}
 use Rattle.sql_text.specs.declared.link.ScanItems.TheVariants as scan
 use Rattle.sql_text.specs.declared.statement.Statement.{Statement}
 use Rattle.sql_text.specs.declared.statement.Statement.TheVariants as statement

@@ -1,13 +1,10 @@
 -- Why a statement on a table is refused: each rule a definition of its own, and their order.
-use Rattle.std.specs.Prelude.{◌≡◌, ℕ, Bool, true, false, List, [], ◌∷◌, Option, Some, None, map, if◌then◌else◌}
-use Rattle.std.specs.List.{zip}
+use Rattle.std.specs.Prelude.{[], ◌∷◌, Option, Some, None, map, if◌then◌else◌}
 use Rattle.std.specs.Option.{option_map}
 use Rattle.sql_values.specs.declared.table.TableDef.{TableDef}
 use Rattle.sql_values.specs.declared.tree.Cond.{Cond}
 use Rattle.sql_values.specs.Checks.{first_column, is_unknown, is_ambiguous, cond_fits}
 use Rattle.part_rules.specs.declared.rule.Rule.{Rule}
-use Rattle.sql_text.specs.declared.statement.Insert.{Insert}
-use Rattle.sql_text.specs.declared.statement.Select.{Select}
 use Rattle.sql_text.specs.declared.statement.Statement.{Statement}
 use Rattle.sql_text.specs.declared.statement.Statement.TheVariants as statement
 use Rattle.stmt_plan.specs.declared.fault.StmtFault.{StmtFault}

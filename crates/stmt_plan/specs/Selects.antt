@@ -1,5 +1,5 @@
 -- What a SELECT asks of its table: MySQL Reference Manual, "SELECT Statement" and "Identifier Qualifiers".
-use Rattle.std.specs.Prelude.{ℕ, ◌+◌, Bool, true, false, List, [], ◌∷◌, ◌++◌, Option, Some, None, map, unwrap_or}
+use Rattle.std.specs.Prelude.{ℕ, ◌+◌, List, [], ◌∷◌, ◌++◌, Option, None, map, unwrap_or}
 use Rattle.std.specs.List.{position}
 use Rattle.std.specs.Option.{option_map_or}
 use Rattle.sql_values.specs.declared.table.ColumnDef.{ColumnDef}

@@ -134,12 +134,7 @@ fn only(alloc: Global, table: &TableDef, known: &Name) -> Result<TableDefs, Stmt
     Ok(tables)
 }
 
-fn check_where(
-    alloc: Global,
-    table: &TableDef,
-    known: &Name,
-    cond: &Cond,
-) -> Result<(), StmtFault>
+fn check_where(alloc: Global, table: &TableDef, known: &Name, cond: &Cond) -> Result<(), StmtFault>
     ensures ok { OnOk result (cond_fault (called table.now known.now) cond.now ≡ None) }
     ensures err { IfErr result (λ fault. (fault ≡ StmtFault.NoMemory) ⊎ (cond_fault (called table.now known.now) cond.now ≡ Some fault)) }
 {
@@ -194,8 +189,11 @@ pub(crate) fn choose(
     let known = known_name(alloc, &select.tab)?;
     let picks = picked(alloc, table, &known, &select.items)?;
     let cond = asked(alloc, table, &known, &select.cond)?;
-    Ok((cond, Picks {
-        table: known,
-        picks,
-    }))
+    Ok((
+        cond,
+        Picks {
+            table: known,
+            picks,
+        },
+    ))
 }

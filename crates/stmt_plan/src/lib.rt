@@ -23,6 +23,5 @@ pub use planned::{Pick, PickList, Picks, Plan, Work};
 pub use planning::plan_on;
 pub use tables::is_table;
 
-
 #[cfg(test)]
 mod tests;

@@ -45,11 +45,7 @@ fn insert(
 }
 
 /// The keys of rows for which the condition may hold.
-fn keys_asked(
-    alloc: Global,
-    table: &TableDef,
-    cond: &Option<Cond>,
-) -> Result<Intervals, AllocError>
+fn keys_asked(alloc: Global, table: &TableDef, cond: &Option<Cond>) -> Result<Intervals, AllocError>
     ensures { IfOk result (λ keys. AreKeys keys (keeps_key table.now cond.now)) }
 {
     match cond {
@@ -108,7 +104,15 @@ pub fn plan_on(
         Statement::Insert(statement) => {
             let (cond, rows) = insert(alloc, table, rule, statement)?;
             let mode = LockMode::Exclusive;
-            Ok(planned(alloc, number, table, rule, Some(cond), mode, Work::Insert(rows))?)
+            Ok(planned(
+                alloc,
+                number,
+                table,
+                rule,
+                Some(cond),
+                mode,
+                Work::Insert(rows),
+            )?)
         }
         Statement::Select(statement) => match choose(alloc, table, statement) {
             Ok((cond, picks)) => {

@@ -4,9 +4,7 @@ use crate::*;
 use list_types::{Listed, Text};
 use part_rules::{Bound, Bounds, Rule};
 use sql_text::{Statement, parse};
-use sql_values::{
-    ColumnDef, Kind, LockMode, Name, PartNo, Row, Rows, TableDef, Value,
-};
+use sql_values::{ColumnDef, Kind, LockMode, Name, PartNo, Row, Rows, TableDef, Value};
 use std::test::*;
 
 fn name(rt: &HostRuntime, text: &str) -> Result<Name, Fail> {
@@ -120,14 +118,32 @@ fn single_refusals(rt: HostRuntime) -> Result<(), Fail> {
         (b"INSERT INTO t VALUES (1)", 1136, 1, ""),
         (b"INSERT INTO t VALUES (1, NULL)", 1048, 0, "v"),
         (b"INSERT INTO t VALUES (1, 2)", 14020, 0, ""),
-        (b"INSERT INTO t VALUES (9223372036854775808, 'a')", 1264, 1, "k"),
-        (b"INSERT INTO t VALUES (1, 'aaaaaaaaaaaaaaaaaaaaa')", 1406, 1, "v"),
-        (b"INSERT INTO t VALUES (9223372036854775807, 'a'), (-9223372036854775808, 'b')", 0, 0, ""),
+        (
+            b"INSERT INTO t VALUES (9223372036854775808, 'a')",
+            1264,
+            1,
+            "k",
+        ),
+        (
+            b"INSERT INTO t VALUES (1, 'aaaaaaaaaaaaaaaaaaaaa')",
+            1406,
+            1,
+            "v",
+        ),
+        (
+            b"INSERT INTO t VALUES (9223372036854775807, 'a'), (-9223372036854775808, 'b')",
+            0,
+            0,
+            "",
+        ),
         (b"SELECT v FROM t WHERE k = 'a'", 14020, 0, ""),
         (b"SELECT t.v FROM t AS u", 1054, 0, "v"),
     ];
     for (text, number, row, column) in cases {
-        assert!(rt; is_refused(&rt, &Rule::Whole, text, (number, row), column)?, "{text:?}");
+        assert!(rt;
+            is_refused(&rt, &Rule::Whole, text, (number, row), column)?,
+            "{text:?}"
+        );
     }
     Ok(())
 }
@@ -140,14 +156,27 @@ fn refusals_in_order(rt: HostRuntime) -> Result<(), Fail> {
         (b"INSERT INTO t (k, k) VALUES (1, NULL)", 1136, 1, ""),
         (b"INSERT INTO t (v) VALUES ('a')", 1136, 1, ""),
         (b"INSERT INTO t VALUES (1, NULL), (2)", 1136, 2, ""),
-        (b"INSERT INTO t (v, k) VALUES (NULL, 'a'), (1, 2)", 1048, 0, "v"),
+        (
+            b"INSERT INTO t (v, k) VALUES (NULL, 'a'), (1, 2)",
+            1048,
+            0,
+            "v",
+        ),
         (b"INSERT INTO t VALUES (100, 'a'), (1, NULL)", 1048, 0, "v"),
-        (b"INSERT INTO t VALUES (1, 'a'), (100, 'b'), (-5, 'c'), (101, 'd')", 1526, 100, ""),
+        (
+            b"INSERT INTO t VALUES (1, 'a'), (100, 'b'), (-5, 'c'), (101, 'd')",
+            1526,
+            100,
+            "",
+        ),
         (b"SELECT k FROM t WHERE w = 1 AND x = NULL", 1054, 0, "w"),
         (b"SELECT x FROM t WHERE w = 1", 1054, 0, "x"),
     ];
     for (text, number, row, column) in cases {
-        assert!(rt; is_refused(&rt, &rule, text, (number, row), column)?, "{text:?}");
+        assert!(rt;
+            is_refused(&rt, &rule, text, (number, row), column)?,
+            "{text:?}"
+        );
     }
     Ok(())
 }
@@ -200,9 +229,11 @@ fn inserts(plan: &Plan, rows: &Rows) -> bool {
 
 fn is_insert_planned(rt: &HostRuntime, plan: &Plan) -> Result<bool, Fail> {
     let rows = three_rows(rt)?;
-    Ok(has_places(plan, &[0, 1], &[(-3, -3), (5, 5)])
-        && inserts(plan, &rows)
-        && has_cond_of(rt, plan, b"SELECT * FROM t WHERE k IN (-3, 5)")?)
+    Ok(
+        has_places(plan, &[0, 1], &[(-3, -3), (5, 5)])
+            && inserts(plan, &rows)
+            && has_cond_of(rt, plan, b"SELECT * FROM t WHERE k IN (-3, 5)")?,
+    )
 }
 
 #[test]
@@ -229,9 +260,7 @@ fn picks(plan: &Plan, table: &str) -> bool {
     match &plan.work {
         Work::Select(chosen) => match chosen.picks.as_slice() {
             [first, second] => {
-                chosen.table.as_str() == table
-                    && is_pick(first, 1, "x")
-                    && is_pick(second, 0, "k")
+                chosen.table.as_str() == table && is_pick(first, 1, "x") && is_pick(second, 0, "k")
             }
             _ => false,
         },
@@ -240,10 +269,12 @@ fn picks(plan: &Plan, table: &str) -> bool {
 }
 
 fn is_select_planned(rt: &HostRuntime, plan: &Plan) -> Result<bool, Fail> {
-    Ok(has_places(plan, &[1], &[(0, 5)])
-        && picks(plan, "u")
-        && plan.mode == LockMode::Shared
-        && has_cond_of(rt, plan, b"SELECT * FROM t WHERE k BETWEEN 0 AND 5")?)
+    Ok(
+        has_places(plan, &[1], &[(0, 5)])
+            && picks(plan, "u")
+            && plan.mode == LockMode::Shared
+            && has_cond_of(rt, plan, b"SELECT * FROM t WHERE k BETWEEN 0 AND 5")?,
+    )
 }
 
 #[test]
@@ -280,8 +311,24 @@ fn keys_and_partitions(rt: HostRuntime) -> Result<(), Fail> {
     let rule = two_parts(&rt)?;
     let all = (i64::MIN, i64::MAX);
     assert!(rt; needs(&rt, &rule, b"SELECT * FROM t", &[0, 1], &[all])?);
-    assert!(rt; needs(&rt, &rule, b"SELECT * FROM t WHERE k = 1 AND k = 2", &[], &[])?);
-    assert!(rt; needs(&rt, &rule, b"SELECT * FROM t WHERE k > 99", &[], &[(100, i64::MAX)])?);
+    assert!(rt;
+        needs(
+            &rt,
+            &rule,
+            b"SELECT * FROM t WHERE k = 1 AND k = 2",
+            &[],
+            &[]
+        )?
+    );
+    assert!(rt;
+        needs(
+            &rt,
+            &rule,
+            b"SELECT * FROM t WHERE k > 99",
+            &[],
+            &[(100, i64::MAX)]
+        )?
+    );
     assert!(rt;
         needs(
             &rt,

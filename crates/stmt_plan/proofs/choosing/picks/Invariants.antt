@@ -7,5 +7,5 @@ abbrev pub invariant-loop-item : goal.invariant-loop-item
 invariant-loop-item l = record {
   picked : l.picks ≡ map (pick_of (called l.table l.known)) (take l.item-index l.items);
   found : find (is_unknown (called l.table l.known ∷ [])) (map (λ item. item.column) (drop l.item-index l.items))
-  ≡ find (is_unknown (called l.table l.known ∷ [])) (map (λ item. item.column) l.items);
+      ≡ find (is_unknown (called l.table l.known ∷ [])) (map (λ item. item.column) l.items);
 }

@@ -1,4 +1,4 @@
-use Rattle.std.proofs.Common.{◌≡◌, rules, tests, sym, ap, ◌∙◌, ◌&&◌, nat_eq, Bool}
+use Rattle.std.proofs.Common.{rules, tests, ap, ◌∙◌, ◌&&◌, nat_eq, Bool}
 use Rattle.std.specs.List.{position}
 use Rattle.std.specs.Cmp.Lexicographic.{pointwise}
 use Rattle.std.proofs.lemmas.Iterator.{YieldsList-from_slice}
