@@ -1,0 +1,5 @@
+pub mod Cells
+pub mod Comparing
+pub mod Gathering
+pub mod Laws
+pub mod Merging

@@ -1,0 +1,117 @@
+-- The faults of a SELECT as the code finds them are its refusals.
+use Rattle.std.proofs.Common.{◌≡◌, ℕ, suc, ◌≤◌, Bool, true, false, cond, eqb, List, [], ◌∷◌, ◌++◌, length, refl, ap, sym, ◌∙◌, arith, Option, Some, None, ◌⊎◌, inl, inr, filter, find}
+use Rattle.std.specs.Prelude.{slice_get}
+use Rattle.std.specs.Option.{option_map, option_or}
+use Rattle.std.proofs.lemmas.Bool.{cases_Bool}
+use Rattle.std.proofs.lemmas.List.{append-nil, length-map}
+use Rattle.std.specs.Result.{result_err}
+use Rattle.std.specs.Cmp.Lexicographic.{pointwise, bytes_decides}
+use Rattle.std.proofs.lemmas.Bool.{and_parts}
+use Rattle.sql_values.specs.declared.table.ColumnDef.{ColumnDef}
+use Rattle.sql_values.specs.declared.table.TableDef.{TableDef}
+use Rattle.sql_values.specs.declared.tree.ColumnName.{ColumnName}
+use Rattle.sql_values.specs.declared.tree.Cond.{Cond}
+use Rattle.sql_values.specs.Checks.{is_unknown, is_ambiguous, first_column, cond_columns, cond_fits, after_columns, named_fault}
+use Rattle.sql_values.specs.Columns.{may_mean, may_qualify, columns_meant}
+use Rattle.part_rules.specs.declared.rule.Rule.{Rule}
+use Rattle.sql_text.specs.declared.statement.Select.{Select}
+use Rattle.sql_text.specs.declared.statement.SelectItems.{SelectItems}
+use Rattle.sql_text.specs.declared.statement.Statement.{Statement}
+use Rattle.sql_text.specs.declared.statement.Statement.TheVariants as statement
+use Rattle.stmt_plan.specs.declared.fault.StmtFault.{StmtFault}
+use Rattle.stmt_plan.specs.declared.fault.StmtFault.TheVariants.{NoColumn, Ambiguous, TypeMismatch, NoMemory}
+use Rattle.stmt_plan.specs.Chosen.{items_fault, where_fault, chosen_fault}
+use Rattle.stmt_plan.specs.Faults.{fault_of_check}
+use Rattle.stmt_plan.specs.Plans.{IsTable}
+use Rattle.stmt_plan.specs.Refusals.{refusal, mismatch_in}
+use Rattle.stmt_plan.specs.Selects.{called, known_name, item_columns, named_columns}
+use Rattle.stmt_plan.proofs.Meant.{found_mapped}
+use Rattle.stmt_plan.proofs.Seeks.{first-append}
+
+-- where what passes a test stands at one place, at most one does
+none_pass : {X : Type 0} (p : X → Bool) (xs : List X) → ((j : ℕ) (y : X) → slice_get xs j ≡ Some y → p y ≡ true → ⊥) → length (filter p xs) ≡ 0
+none_pass p [] none = refl
+none_pass p (x ∷ xs) none =
+    elim (cases_Bool (p x)) [
+      | inl here ↦ absurd (none 0 x refl here)
+      | inr other ↦ rw other (none_pass p xs (λ j y at pass. none (suc j) y at pass))
+    ]
+
+one_passes : {X : Type 0} (p : X → Bool) (xs : List X) → ((i j : ℕ) (x y : X) → slice_get xs i ≡ Some x → slice_get xs j ≡ Some y → p x ≡ true → p y ≡ true → i ≡ j) → length (filter p xs) ≤ 1
+one_passes p [] one = omega arith
+one_passes p (x ∷ xs) one =
+    elim (cases_Bool (p x)) [
+      | inl here ↦
+          let none : length (filter p xs) ≡ 0 = none_pass p xs (λ j y at pass. let same : 0 ≡ suc j = one 0 (suc j) x y refl at here pass in omega arith) in
+          rw here (omega (arith, none))
+      | inr other ↦ rw other (one_passes p xs (λ i j y z at there pass passes. let same : suc i ≡ suc j = one (suc i) (suc j) y z at there pass passes in omega arith))
+    ]
+
+same_names : (name : ColumnName) (n : List ℕ) (c d : ColumnDef) → may_mean name (n, c) ≡ true → may_mean name (n, d) ≡ true → c.name ≡ d.name
+same_names name n c d first second =
+    let c_named : pointwise eqb c.name name.column ≡ true = (and_parts (may_qualify name.table n) (pointwise eqb c.name name.column) first).1 in
+    let d_named : pointwise eqb d.name name.column ≡ true = (and_parts (may_qualify name.table n) (pointwise eqb d.name name.column) second).1 in
+    (bytes_decides c.name name.column).0 c_named ∙ sym ((bytes_decides d.name name.column).0 d_named)
+
+one_meant : (table : TableDef) (n : List ℕ) (name : ColumnName) → IsTable table → length (columns_meant name (called table n ∷ [])) ≤ 1
+unfolding columns_meant
+one_meant table n name is =
+    rw (append-nil, found_mapped, length-map)
+    (one_passes (λ (column : ColumnDef). may_mean name (n, column)) table.columns
+    (λ i j c d at there first second. is.apart i j c d at there (same_names name n c d first second)))
+
+not_ambiguous : (table : TableDef) (n : List ℕ) (name : ColumnName) → IsTable table → is_ambiguous (called table n ∷ []) name ≡ false
+not_ambiguous table n name is = let few : length (columns_meant name (called table n ∷ [])) ≤ 1 = one_meant table n name is in grind arith
+
+none_found : (test : ColumnName → Bool) (names : List ColumnName) → ((name : ColumnName) → test name ≡ false) → find test names ≡ None
+none_found test [] never = refl
+none_found test (name ∷ names) never = rw (never name) (none_found test names never)
+
+none_ambiguous : (table : TableDef) (n : List ℕ) (names : List ColumnName) → IsTable table → first_column (is_ambiguous (called table n ∷ [])) names ≡ None
+unfolding first_column
+none_ambiguous table n names is = rw (none_found (is_ambiguous (called table n ∷ [])) names (λ name. not_ambiguous table n name is)) refl
+
+-- the same faults in the two orders, where no name is ambiguous
+in_order : (items wheres : Option (List ℕ)) (fits : Bool) →
+    option_or (option_map NoColumn (option_or items wheres)) (option_or (cond {A = Option StmtFault} fits None (Some TypeMismatch)) None)
+    ≡ option_or (option_map NoColumn items) (option_map fault_of_check (result_err (after_columns (named_fault wheres None) (cond {A = Option (Unit {0})} fits (Some (tt {0})) None))))
+in_order (Some n) wheres fits = refl
+in_order None (Some n) fits = refl
+in_order None None true = refl
+in_order None None false = refl
+
+with_where : (all items wheres several some : Option (List ℕ)) (fits : Bool) → all ≡ option_or items wheres → several ≡ None → some ≡ None →
+    option_or (option_map NoColumn all) (option_or (option_map Ambiguous several) (option_or (cond {A = Option StmtFault} fits None (Some TypeMismatch)) None))
+    ≡ option_or (option_map NoColumn items) (option_map fault_of_check (result_err (after_columns (named_fault wheres some) (cond {A = Option (Unit {0})} fits (Some (tt {0})) None))))
+with_where all items wheres several some fits joined none none_there = rw (joined, none, none_there) (in_order items wheres fits)
+
+without_where : (all items several : Option (List ℕ)) → all ≡ items → several ≡ None →
+    option_or (option_map NoColumn all) (option_or (option_map Ambiguous several) (option_or {T = StmtFault} None None)) ≡ option_or (option_map NoColumn items) None
+without_where all items several same none = rw (same, none) refl
+
+pub refusal_by : (table : TableDef) (n : List ℕ) (items : SelectItems) (pushed : Option Cond) → IsTable table →
+    option_or (option_map NoColumn (first_column (is_unknown (called table n ∷ [])) (named_columns items pushed)))
+    (option_or (option_map Ambiguous (first_column (is_ambiguous (called table n ∷ [])) (named_columns items pushed))) (option_or (mismatch_in (called table n) pushed) None))
+    ≡ option_or (items_fault (called table n) items) (where_fault (called table n) pushed)
+refusal_by table n items None is =
+    without_where (first_column (is_unknown (called table n ∷ [])) (item_columns items ++ [])) (first_column (is_unknown (called table n ∷ [])) (item_columns items))
+    (first_column (is_ambiguous (called table n ∷ [])) (item_columns items ++ []))
+    (ap (first_column (is_unknown (called table n ∷ []))) (append-nil (item_columns items))) (none_ambiguous table n (item_columns items ++ []) is)
+refusal_by table n items (Some c) is =
+    with_where (first_column (is_unknown (called table n ∷ [])) (item_columns items ++ cond_columns c)) (first_column (is_unknown (called table n ∷ [])) (item_columns items))
+    (first_column (is_unknown (called table n ∷ [])) (cond_columns c)) (first_column (is_ambiguous (called table n ∷ [])) (item_columns items ++ cond_columns c))
+    (first_column (is_ambiguous (called table n ∷ [])) (cond_columns c)) (cond_fits (called table n ∷ []) c)
+    (first-append (is_unknown (called table n ∷ [])) (item_columns items) (cond_columns c)) (none_ambiguous table n (item_columns items ++ cond_columns c) is)
+    (none_ambiguous table n (cond_columns c) is)
+
+pub refusal_of_select : (table : TableDef) (rule : Rule) (select : Select) → IsTable table → refusal table rule (statement.Select select) ≡ chosen_fault table select
+refusal_of_select table rule select is = refusal_by table (known_name select.tab) select.items select.cond is
+
+pub told_of_select : (table : TableDef) (rule : Rule) (s : Statement) (select : Select) (fault : StmtFault) → IsTable table → s ≡ statement.Select select →
+    (fault ≡ NoMemory) ⊎ (chosen_fault table select ≡ Some fault) → (fault ≡ NoMemory) ⊎ (refusal table rule s ≡ Some fault)
+told_of_select table rule s select fault is selects (inl none) = inl none
+told_of_select table rule s select fault is selects (inr found) = inr (ap (refusal table rule) selects ∙ refusal_of_select table rule select is ∙ found)
+
+pub none_of_select : (table : TableDef) (rule : Rule) (s : Statement) (select : Select) → IsTable table → s ≡ statement.Select select →
+    chosen_fault table select ≡ None → refusal table rule s ≡ None
+none_of_select table rule s select is selects none = ap (refusal table rule) selects ∙ refusal_of_select table rule select is ∙ none

@@ -1,0 +1,10 @@
+pub mod Apart
+pub mod Chosen
+pub mod Faults
+pub mod Finished
+pub mod Inserts
+pub mod Laws
+pub mod Plans
+pub mod Refusals
+pub mod Selects
+pub mod Slots

@@ -1,0 +1,125 @@
+//! The plan of a statement.
+
+ghost use Rattle.std.specs.Prelude.{◌≡◌, ◌⊎◌, None, Some, IfOk, IfErr, OnOk};
+ghost use Rattle.sql_values.specs.KeySets.{AreKeys};
+ghost use Rattle.part_rules.specs.Placing.{IsRule};
+ghost use Rattle.stmt_plan.specs.Finished.{IsFinished};
+ghost use Rattle.stmt_plan.specs.Inserts.{rows_of};
+ghost use Rattle.stmt_plan.specs.Plans.{IsTable, IsPlan, IsPushed, keeps_key};
+ghost use Rattle.stmt_plan.specs.Refusals.{refusal};
+
+use crate::choosing::choose;
+use crate::inserting::{check_rows, count_rows, slots, stored_rows, targets};
+use crate::key_conditions::{key_condition, keys_of_rows, place_keys};
+use crate::{Plan, StmtFault, Work};
+use part_rules::{Rule, keys_of, prune};
+use sql_text::{Insert, ScanItems, Statement};
+use sql_values::{Cond, Intervals, LockMode, Rows, TableDef, TableNo};
+use std::alloc::{AllocError, Global};
+
+/// The rows of an INSERT, and the condition that asks for their keys, or why it is refused.
+fn insert(
+    alloc: Global,
+    table: &TableDef,
+    rule: &Rule,
+    insert: &Insert,
+) -> Result<(Cond, Rows), StmtFault>
+    requires rule { IsRule rule.now }
+    requires table { IsTable table.now }
+    ensures cond { IfOk result (λ found. IsPushed table.now (Statement.Insert insert.now) (Some found.0)) }
+    ensures rows { IfOk result (λ found. found.1 ≡ rows_of table.now insert.now.columns insert.now.rows) }
+    ensures ok { OnOk result (refusal table.now rule.now (Statement.Insert insert.now) ≡ None) }
+    ensures err { IfErr result (λ fault. (fault ≡ StmtFault.NoMemory) ⊎ (refusal table.now rule.now (Statement.Insert insert.now) ≡ Some fault)) }
+{
+    let columns = table.columns.as_slice();
+    let rows = insert.rows.as_slice();
+    let among = targets(alloc, columns, &insert.columns)?;
+    let slots = slots(alloc, columns, &among)?;
+    count_rows(columns.len(), rows)?;
+    check_rows(alloc, &among, rows)?;
+    let stored = stored_rows(alloc, &slots, rows)?;
+    let keys = keys_of_rows(alloc, stored.as_slice(), table.key)?;
+    place_keys(rule, &keys)?;
+    let cond = key_condition(alloc, table, keys)?;
+    Ok((cond, stored))
+}
+
+/// The keys of rows for which the condition may hold.
+fn keys_asked(alloc: Global, table: &TableDef, cond: &Option<Cond>) -> Result<Intervals, AllocError>
+    ensures { IfOk result (λ keys. AreKeys keys (keeps_key table.now cond.now)) }
+{
+    match cond {
+        Some(cond) => keys_of(alloc, cond, table),
+        None => Intervals::whole(alloc),
+    }
+}
+
+fn planned(
+    alloc: Global,
+    number: TableNo,
+    table: &TableDef,
+    rule: &Rule,
+    cond: Option<Cond>,
+    mode: LockMode,
+    work: Work,
+) -> Result<Plan, AllocError>
+    requires { IsRule rule.now }
+    ensures { IfOk result (λ plan. IsFinished number table.now rule.now cond mode work plan) }
+{
+    let keys = keys_asked(alloc, table, &cond)?;
+    let parts = prune(alloc, rule, &keys)?;
+    Ok(Plan {
+        table: number,
+        parts,
+        keys,
+        pushed: ScanItems::All,
+        cond,
+        limit: None,
+        mode,
+        work,
+    })
+}
+
+/// The plan of a statement on this table, whose number is handed on, or the first rule that it breaks.
+///
+/// The rules are, in this order: a column that the table doesn't have, one that may be one of several, a row with another number of values than
+/// columns, then by row and by column in the order of the statement NULL, a value of another type, a number out of range, a text too long, then a row
+/// whose key no partition takes, then a condition on values that can't be compared. Names of the table itself aren't compared: the caller has found it.
+///
+/// The cost of an INSERT is that of sorting its keys, beside one look at each of its values; names are looked up once.
+pub fn plan_on(
+    alloc: Global,
+    number: TableNo,
+    table: &TableDef,
+    rule: &Rule,
+    statement: &Statement,
+) -> Result<Plan, StmtFault>
+    requires rule { IsRule rule.now }
+    requires table { IsTable table.now }
+    ensures plan { IfOk result (λ plan. IsPlan number table.now rule.now statement.now plan) }
+    ensures ok { OnOk result (refusal table.now rule.now statement.now ≡ None) }
+    ensures err { IfErr result (λ fault. (fault ≡ StmtFault.NoMemory) ⊎ (refusal table.now rule.now statement.now ≡ Some fault)) }
+{
+    match statement {
+        Statement::Insert(statement) => {
+            let (cond, rows) = insert(alloc, table, rule, statement)?;
+            let mode = LockMode::Exclusive;
+            Ok(planned(
+                alloc,
+                number,
+                table,
+                rule,
+                Some(cond),
+                mode,
+                Work::Insert(rows),
+            )?)
+        }
+        Statement::Select(statement) => match choose(alloc, table, statement) {
+            Ok((cond, picks)) => {
+                let mode = LockMode::Shared;
+                Ok(planned(alloc, number, table, rule, cond, mode, Work::Select(picks))?)
+            }
+            Err(fault) => Err(fault),
+        },
+    }
+}
