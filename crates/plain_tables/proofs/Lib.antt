@@ -1,3 +1,4 @@
 pub mod Inserted
 pub mod Members
 pub mod Merged
+pub mod Scanned

@@ -1,3 +1,4 @@
 pub mod Inserts
 pub mod Partitions
 pub mod Rows
+pub mod Statements

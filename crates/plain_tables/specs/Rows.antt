@@ -1,5 +1,5 @@
 -- A plain table: rows in the order of their keys.
-use Rattle.std.specs.Prelude.{◌≡◌, ℕ, ℤ, pos, Bool, true, List, [], ◌∷◌, Option, Some, slice_get, FitsSigned}
+use Rattle.std.specs.Prelude.{◌≡◌, ℕ, ℤ, Bool, true, List, [], ◌∷◌, Option, Some, slice_get, FitsSigned}
 use Rattle.std.specs.Int.{w64}
 use Rattle.std.specs.List.{AllByRecursion, filter}
 use Rattle.std.specs.List.Sorted.{IsStrictlySortedBy}
@@ -11,18 +11,14 @@ use Rattle.sql_values.specs.declared.tree.Cond.{Cond}
 use Rattle.sql_values.specs.declared.value.Value.{Value}
 use Rattle.sql_values.specs.declared.value.Value.TheVariants as value
 use Rattle.sql_values.specs.Conditions.{cond_holds}
+use Rattle.stmt_plan.specs.Inserts.{row_key}
 
 abbrev pub Row : Type 0
 Row = List Value
 
--- a number; a text counts as 0
-abbrev pub number_of : Value → ℤ
-number_of (value.Number n) = n
-number_of (value.Text t) = pos 0
-
 -- what stands in the key column of a row
 abbrev pub key_of : TableDef → Row → ℤ
-key_of def row = option_map_or number_of (slice_get row def.key) (pos 0)
+key_of def row = row_key def.key row
 
 -- the key column of the row has a BIGINT
 pub record HasKey (def : TableDef) (row : Row) : Type 0 where

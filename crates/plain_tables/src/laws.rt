@@ -2,6 +2,7 @@
 
 ghost use Rattle.plain_tables.specs.Inserts.{FoundKeysTell, PutsKeepTables, PutsArePlaced};
 ghost use Rattle.plain_tables.specs.Partitions.{PartitionsAreMerged, RowsMergeInOneWay};
+ghost use Rattle.plain_tables.specs.Statements.{StatementsAreScans, StatementsAreMerged};
 
 /// Lists of rows merge to one list.
 pub fn rows_merge_in_one_way()
@@ -26,4 +27,14 @@ pub fn puts_keep_tables()
 /// Where rows are put into a table, each partition has its own of them put into it.
 pub fn puts_are_placed()
     ensures { PutsArePlaced }
+{}
+
+/// A statement that isn't refused is a scan of its plan's condition, and what it makes of the rows that this finds.
+pub fn statements_are_scans()
+    ensures { StatementsAreScans }
+{}
+
+/// It is the same of the scans of its plan's partitions, merged.
+pub fn statements_are_merged()
+    ensures { StatementsAreMerged }
 {}

@@ -1,0 +1,142 @@
+-- A statement is what its scan finds.
+use Rattle.std.proofs.Common.{◌≡◌, ℕ, ℤ, pos, Bool, ◌||◌, true, false, List, [], ◌∷◌, ◌++◌, map, Option, Some, None, IsSomeAnd, refl, sym, ◌∙◌, ap, subst, inl, inr, find}
+use Rattle.std.specs.Prelude.{◌↔◌, slice_get}
+use Rattle.std.specs.List.{AllByRecursion, Contains, filter, list_any}
+use Rattle.std.specs.Option.{option_map, option_map_or, option_or}
+use Rattle.std.specs.Ordering.{int_eq}
+use Rattle.std.specs.Cmp.Lexicographic.{pointwise, bytes_decides}
+use Rattle.std.specs.Cmp.{both_ways}
+use Rattle.std.proofs.lemmas.Bool.Decides.{Decides-int_eq}
+use Rattle.std.proofs.lemmas.Cmp.{int_eq_equiv}
+use Rattle.std.proofs.lemmas.List.Elements.{filter_agree}
+use Rattle.std.proofs.lemmas.Map.Views.{list_any-from_Contains, Contains-from_any}
+use Rattle.sql_values.specs.declared.literal.Literal.{Literal}
+use Rattle.sql_values.specs.declared.literal.Literal.TheVariants as literal
+use Rattle.sql_values.specs.declared.table.ColumnDef.{ColumnDef}
+use Rattle.sql_values.specs.declared.table.Kind.TheVariants.{BigInt}
+use Rattle.sql_values.specs.declared.table.TableDef.{TableDef}
+use Rattle.sql_values.specs.declared.tree.Comparison.TheVariants.{Equal}
+use Rattle.sql_values.specs.declared.tree.ColumnName.{ColumnName}
+use Rattle.sql_values.specs.declared.tree.Cond.{Cond, Cond-F}
+use Rattle.sql_values.specs.declared.tree.Cond.TheFolds.{fold-roll-Cond}
+use Rattle.sql_values.specs.declared.tree.Cond.TheVariants.{rolls-In}
+use Rattle.sql_values.specs.declared.value.Value.{Value}
+use Rattle.sql_values.specs.declared.value.Value.TheVariants as value
+use Rattle.sql_values.specs.Checks.{first_column, is_unknown, cond_columns}
+use Rattle.sql_values.specs.Conditions.{cond_holds, layer_holds, compares, literal_of}
+use Rattle.part_rules.specs.declared.rule.Rule.{Rule}
+use Rattle.part_rules.specs.Keeps.{names_key}
+use Rattle.part_rules.specs.KeyRows.{HasOwnKeyName}
+use Rattle.part_rules.proofs.KeptKeys.{key_value}
+use Rattle.sql_text.specs.declared.statement.Insert.{Insert}
+use Rattle.sql_text.specs.declared.statement.Select.{Select}
+use Rattle.sql_text.specs.declared.statement.Statement.{Statement}
+use Rattle.sql_text.specs.declared.statement.Statement.TheVariants as statement
+use Rattle.sql_text.specs.declared.statement.Tab.{Tab}
+use Rattle.stmt_plan.specs.declared.fault.StmtFault.{StmtFault}
+use Rattle.stmt_plan.specs.declared.fault.StmtFault.TheVariants.{NoColumn}
+use Rattle.stmt_plan.specs.declared.planned.Plan.{Plan}
+use Rattle.stmt_plan.specs.Inserts.{rows_of, row_key, AreRising, in_keys, key_name}
+use Rattle.stmt_plan.specs.Plans.{IsPlan}
+use Rattle.stmt_plan.specs.Plans.{IsTable as IsDefinition}
+use Rattle.stmt_plan.specs.Refusals.{refusal, no_column}
+use Rattle.stmt_plan.specs.Selects.{known_as, item_columns, picks_of, unqualified}
+use Rattle.stmt_plan.proofs.BareNames.{unqualified_means_the_same}
+use Rattle.stmt_plan.proofs.Seeks.{first-append}
+use Rattle.plain_tables.specs.Rows.{Row, key_of, HasKey, holds_on, kept}
+use Rattle.plain_tables.specs.Inserts.{has_row, first_taken, put_all, FindsKeys}
+use Rattle.plain_tables.specs.Partitions.{IsTable, IsMerged, rows_in}
+use Rattle.plain_tables.specs.Statements.{Answer, Found, cells_of, inserted, inserted_by, executed, executed_by, done_by, finished, added_by, applied, StatementsAreScans, StatementsAreMerged}
+use Rattle.plain_tables.proofs.Members.{all_of, all_by}
+use Rattle.plain_tables.proofs.Merged.{partitions_are_merged, rows_merge_in_one_way}
+use Rattle.plain_tables.proofs.Inserted.{found_keys_tell}
+
+pub own_key : (def : TableDef) → IsDefinition def → HasOwnKeyName def
+own_key def is j other column there here same = is.apart j def.key other column there here same
+
+-- WHERE UNDER THE STATEMENT'S NAME OF THE TABLE
+
+-- neither is there, where the first that is there isn't
+both_none : {X : Type 0} (a b : Option X) → option_or a b ≡ None → (a ≡ None) × (b ≡ None)
+both_none None b is = (refl, is)
+both_none (Some x) b is = let no : Some x ≡ None = is in cc
+
+unmapped : {X Y : Type 0} (f : X → Y) (a : Option X) → option_map f a ≡ None → a ≡ None
+unmapped f None is = refl
+unmapped f (Some x) is = let no : Some (f x) ≡ None = is in cc
+
+pushed_means : (def : TableDef) (select : Select) (c : Option Cond) (row : Row) → first_column (is_unknown (known_as def select.tab ∷ [])) (item_columns select.items ++ option_map_or cond_columns c []) ≡ None
+    → holds_on def (option_map unqualified c) row ≡ holds_on (known_as def select.tab) c row
+pushed_means def select None row known = refl
+pushed_means def select (Some c) row known =
+    let parts = both_none (first_column (is_unknown (known_as def select.tab ∷ [])) (item_columns select.items)) (first_column (is_unknown (known_as def select.tab ∷ [])) (cond_columns c))
+        (sym (first-append (is_unknown (known_as def select.tab ∷ [])) (item_columns select.items) (cond_columns c)) ∙ known) in
+    unqualified_means_the_same def select.tab row c parts.1
+
+-- KEYS OF AN INSERT
+
+-- a test of a key is the same of two lists with the same keys
+any_alike : (key : ℤ) (xs ys : List ℤ) → ((k : ℤ) → Contains xs k ↔ Contains ys k) → list_any (int_eq key) xs ≡ list_any (int_eq key) ys
+any_alike key xs ys same =
+    both_ways (list_any (int_eq key) xs) (list_any (int_eq key) ys)
+    (λ found. list_any-from_Contains int_eq_equiv key ys ((same key).0 (Contains-from_any (λ x y is. (Decides-int_eq x y).0 is) key xs found)))
+    (λ found. list_any-from_Contains int_eq_equiv key xs ((same key).1 (Contains-from_any (λ x y is. (Decides-int_eq x y).0 is) key ys found)))
+
+any_number : (key : ℤ) (list : List ℤ) → list_any (compares Equal (literal.Number key)) (map literal.Number list) ≡ list_any (int_eq key) list
+any_number key [] = refl
+any_number key (k ∷ ks) = ap (λ b. int_eq key k || b) (any_number key ks)
+
+-- the key column's own name means it
+own_name : (def : TableDef) (o : Option ColumnDef) → slice_get def.columns def.key ≡ o → IsSomeAnd o (λ (c : ColumnDef). c.kind ≡ BigInt) → names_key def (record { table = None; column = key_name def }) ≡ true
+own_name def None at is = absurd is
+own_name def (Some c) at is = rw at ((bytes_decides c.name c.name).1 refl)
+
+-- the pushed condition holds exactly on the rows with one of the keys
+finds : (def : TableDef) (rising keys : List ℤ) (row : Row) → IsDefinition def → AreRising rising keys → HasKey def row → holds_on def (Some (in_keys def rising)) row ≡ list_any (int_eq (key_of def row)) keys
+finds def rising keys row is same keyed =
+    let name : ColumnName = record { table = None; column = key_name def } in
+    let column = key_value def row (key_of def row) name (own_key def is) keyed.stands (own_name def (slice_get def.columns def.key) refl is.key) in
+    ap (cond_holds (def ∷ []) row) (sym (rolls-In name false (map literal.Number rising)))
+    ∙ fold-roll-Cond Bool (layer_holds (def ∷ []) row) (Cond-F.In name false (map literal.Number rising))
+    ∙ ap (λ (o : Option Value). list_any (compares Equal (option_map_or literal_of o literal.Null)) (map literal.Number rising)) column
+    ∙ any_number (key_of def row) rising
+    ∙ any_alike (key_of def row) rising keys same.same
+
+all_found : (def : TableDef) (rising keys : List ℤ) (rows : List Row) → IsDefinition def → AreRising rising keys → AllByRecursion (HasKey def) rows → FindsKeys def (Some (in_keys def rising)) keys rows
+all_found def rising keys [] is same keyed = tt
+all_found def rising keys (row ∷ rows) is same keyed = (finds def rising keys row is same keyed.0, all_found def rising keys rows is same keyed.1)
+
+-- STATEMENTS
+
+added : (def : TableDef) (rows news : List Row) (o : Option ℤ) → inserted_by def rows news o ≡ applied def rows (added_by news o)
+unfolding put_all
+added def rows news (Some key) = refl
+added def rows news None = refl
+
+scanned : (number : ℕ) (def : TableDef) (rule : Rule) (s : Statement) (plan : Plan) (rows : List Row) → IsDefinition def → IsTable def rule rows → no_column def s ≡ None → IsPlan number def rule s plan
+    → done_by def s rows ≡ applied def rows (finished def plan.work (kept def plan.cond rows))
+unfolding put_all
+scanned number def rule (statement.Insert insert) plan rows is table known planned =
+    let news = rows_of def insert.columns insert.rows in
+    let keys = map (row_key def.key) news in
+    let found = found_keys_tell def rows (Some (in_keys def planned.cond.list)) keys (all_found def planned.cond.list keys rows is planned.cond.rising table.keyed) in
+    added def rows news (first_taken (has_row def rows) keys)
+    ∙ ap (λ o. applied def rows (added_by news o)) (sym found)
+    ∙ ap (λ (c : Option Cond). applied def rows (added_by news (first_taken (has_row def (kept def c rows)) keys))) (sym planned.cond.in_list)
+    ∙ ap (λ w. applied def rows (finished def w (kept def plan.cond rows))) (sym planned.work_is)
+scanned number def rule (statement.Select select) plan rows is table known planned =
+    let same = filter_agree (holds_on def (option_map unqualified select.cond)) (holds_on (known_as def select.tab) select.cond) (λ row. pushed_means def select select.cond row (unmapped NoColumn _ known)) rows in
+    let picks = picks_of (known_as def select.tab) select.items in
+    ap (λ found. (Found (map (cells_of picks) found), rows)) (sym same)
+    ∙ ap (λ (c : Option Cond). (Found (map (cells_of picks) (kept def c rows)), rows)) (sym planned.cond)
+    ∙ ap (λ w. applied def rows (finished def w (kept def plan.cond rows))) (sym planned.work_is)
+
+pub statements_are_scans : StatementsAreScans
+statements_are_scans number def rule s plan rows is table passes planned =
+    ap (executed_by def s rows) passes ∙ scanned number def rule s plan rows is table (both_none (no_column def s) _ passes).0 planned
+
+pub statements_are_merged : StatementsAreMerged
+statements_are_merged number def rule s plan rows all is table passes planned merged =
+    let same = rows_merge_in_one_way def (map (λ p. kept def plan.cond (rows_in def rule p rows)) plan.parts) (kept def plan.cond rows) all
+        (partitions_are_merged def rule rows plan.cond plan.keys plan.parts (own_key def is) table planned.keys planned.parts) merged in
+    statements_are_scans number def rule s plan rows is table passes planned ∙ ap (λ found. applied def rows (finished def plan.work found)) same

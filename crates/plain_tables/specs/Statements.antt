@@ -1,0 +1,97 @@
+-- What a statement on one table answers, and what it leaves.
+use Rattle.std.specs.Prelude.{◌≡◌, ℕ, ℤ, pos, Bool, true, false, List, [], ◌∷◌, Option, Some, None, map, length, slice_get, unwrap_or}
+use Rattle.std.specs.List.{AllByRecursion, filter}
+use Rattle.std.specs.Option.{option_map_or}
+use Rattle.sql_values.specs.declared.literal.Literal.{Literal}
+use Rattle.sql_values.specs.declared.literal.Literal.TheVariants as literal
+use Rattle.sql_values.specs.declared.table.TableDef.{TableDef}
+use Rattle.sql_values.specs.declared.tree.Cond.{Cond}
+use Rattle.sql_values.specs.Conditions.{cond_holds, literal_of}
+use Rattle.part_rules.specs.declared.rule.Rule.{Rule}
+use Rattle.sql_text.specs.declared.statement.Insert.{Insert}
+use Rattle.sql_text.specs.declared.statement.Select.{Select}
+use Rattle.sql_text.specs.declared.statement.Statement.{Statement}
+use Rattle.sql_text.specs.declared.statement.Statement.TheVariants as statement
+use Rattle.stmt_plan.specs.declared.fault.StmtFault.{StmtFault}
+use Rattle.stmt_plan.specs.declared.planned.Pick.{Pick}
+use Rattle.stmt_plan.specs.declared.planned.Plan.{Plan}
+use Rattle.stmt_plan.specs.declared.planned.Work.{Work}
+use Rattle.stmt_plan.specs.declared.planned.Work.TheVariants as work
+use Rattle.stmt_plan.specs.Inserts.{rows_of}
+use Rattle.stmt_plan.specs.Plans.{IsPlan}
+use Rattle.stmt_plan.specs.Plans.{IsTable as IsDefinition}
+use Rattle.stmt_plan.specs.Refusals.{refusal}
+use Rattle.stmt_plan.specs.Selects.{known_as, picks_of}
+use Rattle.plain_tables.specs.Inserts.{has_row, first_taken, put_all}
+use Rattle.plain_tables.specs.Partitions.{IsTable, IsMerged, rows_in}
+use Rattle.plain_tables.specs.Rows.{Row, key_of, holds_on, kept}
+
+-- what a statement answers
+pub data Answer : Type 0 where
+  -- it is refused for what it says
+  Refused : StmtFault → Answer
+  -- a row has this key already, or two new rows have it
+  Duplicate : ℤ → Answer
+  -- so many rows were added
+  Done : ℕ → Answer
+  -- these rows of cells
+  Found : List (List Literal) → Answer
+
+-- the cell of a row in that column; a column that isn't there has NULL
+abbrev pub cell_at : Row → Pick → Literal
+cell_at row pick = option_map_or literal_of (slice_get row pick.column) literal.Null
+
+abbrev pub cells_of : List Pick → Row → List Literal
+cells_of picks row = map (cell_at row) picks
+
+-- INSERT: none of the rows is added where a key is taken
+abbrev pub inserted_by : TableDef → List Row → List Row → Option ℤ → Answer × List Row
+inserted_by def rows news (Some key) = (Duplicate key, rows)
+inserted_by def rows news None = (Done (length news), put_all def rows news)
+
+abbrev pub inserted : TableDef → List Row → List Row → Answer × List Row
+inserted def news rows = inserted_by def rows news (first_taken (has_row def rows) (map (key_of def) news))
+
+-- SELECT: the rows on which WHERE holds, under the statement's name of the table, reduced to its items
+abbrev pub selected : TableDef → Select → List Row → Answer
+selected def select rows = Found (map (cells_of (picks_of (known_as def select.tab) select.items)) (kept (known_as def select.tab) select.cond rows))
+
+abbrev pub done_by : TableDef → Statement → List Row → Answer × List Row
+done_by def (statement.Insert insert) rows = inserted def (rows_of def insert.columns insert.rows) rows
+done_by def (statement.Select select) rows = (selected def select rows, rows)
+
+abbrev pub executed_by : TableDef → Statement → List Row → Option StmtFault → Answer × List Row
+executed_by def s rows (Some fault) = (Refused fault, rows)
+executed_by def s rows None = done_by def s rows
+
+-- the answer of a statement on a table, and the rows that it leaves
+abbrev pub executed : TableDef → Rule → Statement → List Row → Answer × List Row
+executed def rule s rows = executed_by def s rows (refusal def rule s)
+
+-- A STATEMENT AS WHAT ITS SCAN FINDS
+
+-- what a statement makes of the rows that its scan found: its answer, and the rows that it adds
+abbrev pub added_by : List Row → Option ℤ → Answer × List Row
+added_by news (Some key) = (Duplicate key, [])
+added_by news None = (Done (length news), news)
+
+abbrev pub finished : TableDef → Work → List Row → Answer × List Row
+finished def (work.Insert news) found = added_by news (first_taken (has_row def found) (map (key_of def) news))
+finished def (work.Select picks) found = (Found (map (cells_of picks.picks) found), [])
+
+-- its answer, and the table with the rows that it adds
+abbrev pub applied : TableDef → List Row → Answer × List Row → Answer × List Row
+applied def rows made = (made.0, put_all def rows made.1)
+
+-- a statement that isn't refused is a scan of its condition, and what it makes of what that found
+abbrev pub StatementsAreScans : Type 0
+StatementsAreScans =
+    (number : ℕ) (def : TableDef) (rule : Rule) (s : Statement) (plan : Plan) (rows : List Row) → IsDefinition def → IsTable def rule rows →
+    refusal def rule s ≡ None → IsPlan number def rule s plan → executed def rule s rows ≡ applied def rows (finished def plan.work (kept def plan.cond rows))
+
+-- the scan may be that of the plan's partitions, merged
+abbrev pub StatementsAreMerged : Type 0
+StatementsAreMerged =
+    (number : ℕ) (def : TableDef) (rule : Rule) (s : Statement) (plan : Plan) (rows all : List Row) → IsDefinition def → IsTable def rule rows →
+    refusal def rule s ≡ None → IsPlan number def rule s plan → IsMerged def (map (λ p. kept def plan.cond (rows_in def rule p rows)) plan.parts) all →
+    executed def rule s rows ≡ applied def rows (finished def plan.work all)
