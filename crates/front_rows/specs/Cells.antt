@@ -1,5 +1,6 @@
 -- A value that may be there, as a literal.
-use Rattle.std.specs.Prelude.{Option, Some, None, Bor}
+use Rattle.std.specs.Prelude.{Option, Some, None}
+use Rattle.std.specs.Borrow.{Bor}
 use Rattle.sql_values.specs.declared.literal.Literal.{Literal}
 use Rattle.sql_values.specs.declared.literal.Literal.TheVariants as literal
 use Rattle.sql_values.specs.declared.value.Value.{Value}
