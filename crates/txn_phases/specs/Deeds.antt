@@ -1,5 +1,5 @@
 -- What a statement does with the rows that its scans found.
-use Rattle.std.specs.Prelude.{ℕ, ◌+◌, ◌*◌, ◌==◌, ℤ, pos, Bool, ◌||◌, List, [], ◌∷◌, Option, Some, None, map, length, sum_by, nat_lt, slice_get, if◌then◌else◌}
+use Rattle.std.specs.Prelude.{ℕ, ◌==◌, ℤ, pos, Bool, true, ◌||◌, List, [], ◌∷◌, Option, Some, None, map, length, sum_by, nat_lt, slice_get, if◌then◌else◌}
 use Rattle.std.specs.List.{filter, flat_map, list_any}
 use Rattle.std.specs.Option.{option_map_or}
 use Rattle.std.specs.BTreeMap.{insert_entry}
@@ -7,6 +7,9 @@ use Rattle.std.specs.Ordering.{int_cmp, int_eq}
 use Rattle.sql_values.specs.declared.value.Value.{Value}
 use Rattle.sql_values.specs.Expressions.{number_of}
 use Rattle.sql_values.specs.Storing.{row_size}
+use Rattle.front_rows.specs.declared.order.Sort.{Sort}
+use Rattle.front_rows.specs.Comparing.{before}
+use Rattle.front_rows.specs.Merging.{is_too_large}
 use Rattle.plain_tables.specs.Inserts.{first_taken}
 use Rattle.txn_phases.specs.declared.deed.PlacedRow.{PlacedRow}
 use Rattle.txn_phases.specs.declared.phase.Target.{Target}
@@ -22,13 +25,17 @@ key_at place row = option_map_or number_of (slice_get row place) (pos 0)
 abbrev pub all_rows : List (List Row) → List Row
 all_rows parts = flat_map (λ rows. rows) parts
 
+-- the order of the key in this column, rising
+abbrev pub key_order : ℕ → List Sort
+key_order place = record { column = place; rising = true } ∷ []
+
 -- the rows of all parts, in the order of their keys
 abbrev pub merged : ℕ → List (List Row) → List Row
-merged place parts = sorted_by (key_at place) (all_rows parts)
+merged place parts = sorted_by (before (key_order place)) (all_rows parts)
 
--- more than 100,000 rows, or more than 64 MiB of them
-abbrev pub is_long_answer : List Row → Bool
-is_long_answer rows = nat_lt 100000 (length rows) || nat_lt 67108864 (sum_by row_size rows)
+-- the same, where they are no more than an answer may have
+abbrev pub merged_within : ℕ → List (List Row) → Option (List Row)
+merged_within place parts = if is_too_large (merged place parts) then None else Some (merged place parts)
 
 -- a row with the key was found
 abbrev pub is_found : ℕ → List (List Row) → ℤ → Bool

@@ -36,7 +36,7 @@ use Rattle.txn_phases.specs.declared.phase.Target.{Target}
 use Rattle.txn_phases.specs.declared.requests.Ask.{Ask}
 use Rattle.txn_phases.specs.declared.requests.Word.{Word}
 use Rattle.txn_phases.specs.declared.requests.Word.TheVariants as word
-use Rattle.txn_phases.specs.Deeds.{merged, is_long_answer, taken_key, news_in, writes_too_much}
+use Rattle.txn_phases.specs.Deeds.{merged_within, taken_key, news_in, writes_too_much}
 
 -- a statement that was not begun yet
 abbrev pub new_job : List Branch → List Target → TableScan → Deed → Job
@@ -153,8 +153,9 @@ writes_by job o [] = ends job o
 writes_by job o (a ∷ asks) = asking job (phase.Putting o) (a ∷ asks)
 
 -- the rows that count were found
-abbrev pub selects : Job → List (List Value) → Job × Progress
-selects job rows = if is_long_answer rows then gives_up job outcome.AnswerLimit else ends job (outcome.Found rows)
+abbrev pub selects : Job → Option (List (List Value)) → Job × Progress
+selects job None = gives_up job outcome.AnswerLimit
+selects job (Some rows) = ends job (outcome.Found rows)
 
 abbrev pub inserting_by : List Target → List PlacedRow → Option ℤ → Inserting
 inserting_by targets news (Some key) = inserting_is.Refused (outcome.Duplicate key)
@@ -169,7 +170,7 @@ inserts job (inserting_is.Refused o) = gives_up job o
 inserts job (inserting_is.Writes o asks) = writes_by job o asks
 
 abbrev pub concluded_by : Job → Deed → Job × Progress
-concluded_by job deed.Select = selects job (merged job.scan.place job.found)
+concluded_by job deed.Select = selects job (merged_within job.scan.place job.found)
 concluded_by job (deed.Insert news) = inserts job (inserting job.targets job.scan.place job.found news)
 
 abbrev pub concluded : Job → Job × Progress

@@ -1,6 +1,6 @@
 ghost use Rattle.std.specs.Prelude.{◌≡◌, ◌+◌, ◌^◌, ◌-◌, ℤ, ◌||◌, not, List, [], map, min, IfOk, OnOk, sum_by, length};
 ghost use Rattle.std.specs.List.{flat_map, list_any};
-ghost use Rattle.txn_phases.specs.Deeds.{Row, key_at, merged, is_long_answer, taken_key as key_taken, news_at, put_by_key, is_found, news_in as news_meant};
+ghost use Rattle.txn_phases.specs.Deeds.{Row, key_at, taken_key as key_taken, news_at, put_by_key, is_found, news_in as news_meant};
 ghost use Rattle.std.specs.BTreeMap.{insert_entry};
 ghost use Rattle.std.specs.BTreeSet.{contains};
 ghost use Rattle.std.specs.Ordering.{int_cmp, int_eq};
@@ -68,17 +68,6 @@ fn key_of(row: &Row, place: u32) -> i64
         Some(Value::Number(key)) => *key,
         _ => 0,
     }
-}
-
-/// Whether these are more than 100,000 rows, or more than 64 MiB of them.
-pub(crate) fn is_long(rows: &[Row]) -> bool
-    ensures { result ≡ is_long_answer rows.now }
-{
-    let mut bytes: u64 = 0;
-    for row in rows {
-        bytes = bytes.saturating_add(size(row));
-    }
-    rows.len() > 100_000 || bytes > 67_108_864
 }
 
 fn copied(row: &Row) -> Result<Row, AllocError>

@@ -1,10 +1,9 @@
 ghost use Rattle.std.specs.Prelude.{◌≡◌};
 ghost use Rattle.txn_phases.specs.Phases.{is_begun as begins_branch, stage_of};
 
-use crate::deed::is_long;
 use crate::inserting::{Inserting, plan_insert};
 use crate::forms::{is_done, is_rows};
-use crate::merging::merged;
+use crate::merging::merged_within;
 use crate::owed::{Owed, mark};
 use crate::requests::{Asks, Word, scans, servers_of, to_all, to_begun};
 use crate::{Branches, Deed, Ending, Outcome, Phase, Progress, Refusal, Stage, Targets};
@@ -101,7 +100,7 @@ impl Job {
     ghost use Rattle.std.specs.Prelude.{◌≡◌, ◌+◌, ◌<◌, [], true, length, IfOk, OnErr, Some, None};
     ghost use Rattle.txn_phases.specs.Phases.{new_job, awaits as may_come, counts_at, marked, with_branches, with_found, rows_if, with_refusal, keeps, noted, owed_of, owed_noted, entering, asking, finished, gives_up as gives_up_by_rule, ends as ends_by_rule, selects as selects_by_rule, inserts as inserts_by_rule, owed_at, concluded, decided, follows, leaves, goes_on as goes_on_by_rule, hears, begins, server_at};
     ghost use Rattle.txn_phases.specs.declared.phase.Stage.{Stage};
-    ghost use Rattle.txn_phases.specs.Deeds.{merged as merged_meant};
+    ghost use Rattle.txn_phases.specs.Deeds.{merged_within as merged_meant};
 
     /// A statement that is to scan these links, at these servers: each server of a link has its branch, none of which is begun. It takes no memory.
     pub fn new(
@@ -270,17 +269,16 @@ impl Job {
         self.ask(alloc, Phase::Ending(outcome), asks)
     }
 
-    /// The rows that were found are the answer.
+    /// The rows that were found are the answer, unless they are too many.
     fn select(&mut self, alloc: Global) -> Result<Progress, AllocError>
         ensures selects { IfOk result (λ progress. (self.new, progress) ≡ selects_by_rule self.old (merged_meant self.old.scan.place self.old.found)) }
         ensures owed { OnErr result ((stage : Stage) → owed_at stage self.new ≡ owed_at stage self.old) }
     {
         let found = mem::replace(&mut self.found, Listed::new(alloc));
-        let rows = merged(alloc, found, self.scan.place)?;
-        if is_long(rows.as_slice()) {
-            return self.give_up(alloc, Outcome::AnswerLimit);
+        match merged_within(alloc, found, self.scan.place)? {
+            Some(rows) => self.end(alloc, Outcome::Found(rows)),
+            None => self.give_up(alloc, Outcome::AnswerLimit),
         }
-        self.end(alloc, Outcome::Found(rows))
     }
 
     /// Rows are added, or the statement is given up.
