@@ -1,10 +1,10 @@
 -- Lists of the elements that lie in each part, one after the other, have all elements.
-use Rattle.std.proofs.Common.{◌≡◌, ℕ, suc, zero, ◌+◌, ◌<◌, ◌==◌, Bool, true, false, not, List, [], ◌∷◌, ◌++◌, refl, arith, sym, ◌∙◌, ap, subst, inl, inr, length, cond, slice_index}
+use Rattle.std.proofs.Common.{◌≡◌, ℕ, suc, ◌+◌, ◌<◌, Bool, true, false, not, List, [], ◌∷◌, ◌++◌, refl, arith, sym, ◌∙◌, ap, subst, inl, inr, cond, slice_index}
 use Rattle.std.specs.List.{AllByRecursion, Contains, filter, flat_map}
 use Rattle.std.specs.List.Sorted.{IsPermutation, IsStrictlyIncreasing}
 use Rattle.std.proofs.lemmas.Bool.{cases_Bool, false≢true}
 use Rattle.std.proofs.lemmas.List.Sorted.{IsPermutation-refl, IsPermutation-sym, IsPermutation-trans, IsPermutation-append_right, IsPermutation-filter_both}
-use Rattle.plain_tables.proofs.Members.{at_front, behind, either, nothing, all_of, all_by, kept_passes, passes_kept}
+use Rattle.plain_tables.proofs.Members.{at_front, behind, either, nothing, all_of, all_by, kept_passes}
 
 next : (k : ℕ) → suc k + 1 ≡ suc (k + 1)
 next k = omega arith
@@ -25,14 +25,14 @@ module _ {X : Type 0} (lies : ℕ → X → Bool) where
   same_part q r (x ∷ xs) apart below =
       let rest = same_part q r xs (λ y c. apart y (behind x y xs c)) below in
       elim (cases_Bool (lies q x)) [
-      | inl first ↦
-          let other : lies r x ≡ false = elim (cases_Bool (lies r x)) [
+        | inl first ↦
+            let other : lies r x ≡ false = elim (cases_Bool (lies r x)) [
               | inl too ↦ let same : q ≡ r = apart x (at_front x xs) first too in let no : ⊥ = omega arith in absurd no
               | inr apart_there ↦ apart_there
             ] in
-          rw (first, other) rest
-      | inr elsewhere ↦ rw elsewhere (ap (λ l. cond (lies r x) (x ∷ l) l) rest)
-    ]
+            rw (first, other) rest
+        | inr elsewhere ↦ rw elsewhere (ap (λ l. cond (lies r x) (x ∷ l) l) rest)
+      ]
 
   same_parts : (q : ℕ) (qs : List ℕ) (xs : List X) → ((r : ℕ) (x : X) → Contains xs x → lies q x ≡ true → lies r x ≡ true → q ≡ r) → AllByRecursion (λ r. q < r) qs
       → flat_map (λ r. filter (lies r) xs) qs ≡ flat_map (λ r. filter (lies r) (filter (λ x. not (lies q x)) xs)) qs
@@ -49,14 +49,14 @@ module _ {X : Type 0} (lies : ℕ → X → Bool) where
       let order = below_all q qs rises in
       let others : List X = filter (λ x. not (lies q x)) xs in
       let rest : IsPermutation (flat_map (λ r. filter (lies r) others) qs) others = parts_permute qs others order.1
-          (λ r s x c. apart r s x (kept_passes (λ y. not (lies q y)) xs x c).0)
-          (λ x c.
-            let at = kept_passes (λ y. not (lies q y)) xs x c in
-            let place = placed x at.0 in
-            elim (either q place.0 qs place.1) [
-            | inl same ↦ let here : lies q x ≡ true = subst (λ r. lies r x ≡ true) (sym same) place.2 in absurd (false≢true (sym (ap not here) ∙ at.1))
-            | inr later ↦ (place.0, later, place.2)
-          ]) in
+      (λ r s x c. apart r s x (kept_passes (λ y. not (lies q y)) xs x c).0)
+      (λ x c.
+      let at = kept_passes (λ y. not (lies q y)) xs x c in
+      let place = placed x at.0 in
+      elim (either q place.0 qs place.1) [
+        | inl same ↦ let here : lies q x ≡ true = subst (λ r. lies r x ≡ true) (sym same) place.2 in absurd (false≢true (sym (ap not here) ∙ at.1))
+        | inr later ↦ (place.0, later, place.2)
+      ]) in
       let split : IsPermutation (filter (lies q) xs ++ others) xs = IsPermutation-sym _ _ (IsPermutation-filter_both (lies q) (λ x. not (lies q x)) (λ x. refl) xs) in
       IsPermutation-trans _ _ _
       (subst (λ l. IsPermutation (filter (lies q) xs ++ l) (filter (lies q) xs ++ others)) (sym (same_parts q qs xs (λ r x c. apart q r x c) order.0)) (IsPermutation-append_right (filter (lies q) xs) _ _ rest))

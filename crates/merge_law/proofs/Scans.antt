@@ -1,37 +1,26 @@
 -- What the partitions answer, put together.
-use Rattle.std.proofs.Common.{◌≡◌, ℕ, ◌==◌, ℤ, Bool, true, false, List, [], ◌∷◌, ◌++◌, map, Option, Some, None, refl, arith, sym, ◌∙◌, ap, subst, cond}
-use Rattle.std.specs.Prelude.{IsSome, ◌<ℤ◌}
+use Rattle.std.proofs.Common.{◌≡◌, ℕ, ◌==◌, Bool, true, false, List, [], ◌∷◌, map, Option, Some, None, refl, arith, sym, ◌∙◌, ap, subst, cond}
 use Rattle.std.specs.List.{AllByRecursion, Contains, filter, flat_map}
 use Rattle.std.specs.List.Sorted.{IsPermutation, IsStrictlySortedBy}
 use Rattle.std.specs.Option.{option_map_or}
-use Rattle.std.specs.Ordering.{int_cmp}
 use Rattle.std.specs.declared.cmp.Ordering.TheVariants.{Less}
 use Rattle.std.specs.Cmp.{int_ranked}
-use Rattle.std.proofs.lemmas.Bool.{cases_Bool, false≢true}
 use Rattle.std.proofs.lemmas.List.Folds.{flat_map-map}
-use Rattle.std.proofs.lemmas.List.Kept.{IsStrictlySortedBy-filter}
 use Rattle.sql_values.specs.declared.table.TableDef.{TableDef}
 use Rattle.sql_values.specs.declared.tree.Cond.{Cond}
 use Rattle.part_rules.specs.declared.rule.Rule.{Rule}
 use Rattle.part_rules.specs.Placing.{part}
-use Rattle.sql_text.specs.declared.link.LinkAnswer.{LinkAnswer}
-use Rattle.sql_text.specs.declared.link.LinkAnswer.TheVariants.{Rows}
-use Rattle.sql_text.specs.declared.statement.Statement.{Statement}
-use Rattle.stmt_plan.specs.declared.planned.Plan.{Plan}
-use Rattle.stmt_plan.specs.Plans.{IsPlan}
-use Rattle.stmt_plan.specs.Plans.{IsTable as IsDefinition}
 use Rattle.front_rows.specs.Gathering.{all_rows, answer_rows}
 use Rattle.front_rows.specs.Laws.{Rises, RisesFrom}
 use Rattle.front_rows.proofs.KeyOrder.{keys_merge}
 use Rattle.plain_tables.specs.Rows.{Row, key_of, HasKey, holds_on, kept}
-use Rattle.plain_tables.specs.Rows.{by_key as key_order}
 use Rattle.plain_tables.specs.Rows.{Rises as RisesByKey}
-use Rattle.plain_tables.specs.Partitions.{lies_in, rows_in, IsTable, IsMerged}
-use Rattle.plain_tables.specs.Statements.{executed, finished, applied}
+use Rattle.plain_tables.specs.Partitions.{lies_in, rows_in, IsMerged}
+use Rattle.plain_tables.specs.Statements.{finished, applied}
 use Rattle.plain_tables.proofs.Members.{all_of, all_by, kept_passes, in_lists}
 use Rattle.plain_tables.proofs.Merged.{partitions_are_merged}
 use Rattle.plain_tables.proofs.Scanned.{own_key, statements_are_scans}
-use Rattle.merge_law.specs.Merging.{by_key, scanned, MergedScansAreStatements}
+use Rattle.merge_law.specs.Merging.{scanned, MergedScansAreStatements}
 use Rattle.merge_law.proofs.Permuted.{parts_permute}
 
 -- by what the tests say of the first element
@@ -72,13 +61,13 @@ merged_scans_are_statements number def rule s plan rows sorted is table passes p
     let found : List Row = kept def plan.cond rows in
     let merged : IsMerged def (map (λ p. kept def plan.cond (rows_in def rule p rows)) plan.parts) found = partitions_are_merged def rule rows plan.cond plan.keys plan.parts (own_key def is) table planned.keys planned.parts in
     let gathered : all_rows (map (scanned def rule plan rows) plan.parts) ≡ flat_map (λ p. filter (lies_in def rule p) found) plan.parts =
-        flat_map-map answer_rows (scanned def rule plan rows) plan.parts ∙ parts_alike def rule plan.cond rows plan.parts in
+    flat_map-map answer_rows (scanned def rule plan rows) plan.parts ∙ parts_alike def rule plan.cond rows plan.parts in
     let permuted : IsPermutation (flat_map (λ p. filter (lies_in def rule p) found) plan.parts) found =
-        parts_permute (lies_in def rule) plan.parts found planned.parts.rising (λ q r row c first second. one_place (part rule (key_of def row)) q r first second)
-        (λ row c.
-          let flat = subst (λ l. Contains l row) (flat_map-map (λ (l : List Row). l) (λ p. kept def plan.cond (rows_in def rule p rows)) plan.parts) ((merged.rows row).0 c) in
-          let at = in_lists (λ p. kept def plan.cond (rows_in def rule p rows)) plan.parts row flat in
-          (at.0, at.1, (kept_passes (lies_in def rule at.0) rows row (kept_passes (holds_on def plan.cond) (rows_in def rule at.0 rows) row at.2).0).1)) in
+    parts_permute (lies_in def rule) plan.parts found planned.parts.rising (λ q r row c first second. one_place (part rule (key_of def row)) q r first second)
+    (λ row c.
+    let flat = subst (λ l. Contains l row) (flat_map-map (λ (l : List Row). l) (λ p. kept def plan.cond (rows_in def rule p rows)) plan.parts) ((merged.rows row).0 c) in
+    let at = in_lists (λ p. kept def plan.cond (rows_in def rule p rows)) plan.parts row flat in
+    (at.0, at.1, (kept_passes (lies_in def rule at.0) rows row (kept_passes (holds_on def plan.cond) (rows_in def rule at.0 rows) row at.2).0).1)) in
     let keyed : AllByRecursion (HasKey def) found = all_by (HasKey def) found (λ row c. all_of (HasKey def) rows row table.keyed (kept_passes (holds_on def plan.cond) rows row c).0) in
     let same : sorted ≡ found = keys_merge def.key (all_rows (map (scanned def rule plan rows) plan.parts)) sorted found in_order (subst (λ l. IsPermutation l found) (sym gathered) permuted) (rises def found merged.rises keyed) in
     statements_are_scans number def rule s plan rows is table passes planned ∙ ap (λ l. applied def rows (finished def plan.work l)) (sym same)

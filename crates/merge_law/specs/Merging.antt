@@ -1,5 +1,5 @@
 -- What is merged of the partitions' answers is what the plain table has.
-use Rattle.std.specs.Prelude.{◌≡◌, ℕ, true, List, [], ◌∷◌, Option, None, map}
+use Rattle.std.specs.Prelude.{◌≡◌, ℕ, true, List, [], ◌∷◌, None, map}
 use Rattle.sql_values.specs.declared.table.TableDef.{TableDef}
 use Rattle.part_rules.specs.declared.rule.Rule.{Rule}
 use Rattle.sql_text.specs.declared.link.LinkAnswer.{LinkAnswer}

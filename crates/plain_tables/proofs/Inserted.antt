@@ -1,10 +1,10 @@
 -- What an INSERT leaves.
-use Rattle.std.proofs.Common.{◌≡◌, ℕ, ◌==◌, ℤ, ◌||◌, Bool, true, false, List, [], ◌∷◌, ◌++◌, map, Option, Some, None, refl, arith, sym, ◌∙◌, ap, subst, inl, inr, cond}
-use Rattle.std.specs.Prelude.{◌⊎◌, ◌<ℤ◌, IsSome, int_lt}
+use Rattle.std.proofs.Common.{◌≡◌, ℕ, ◌==◌, ℤ, ◌||◌, Bool, true, false, List, [], ◌∷◌, ◌++◌, Option, Some, refl, arith, sym, ◌∙◌, ap, subst, inl, inr, cond}
+use Rattle.std.specs.Prelude.{◌⊎◌, IsSome, int_lt}
 use Rattle.std.specs.List.{AllByRecursion, Contains, filter, list_any}
 use Rattle.std.specs.List.Sorted.{IsStrictlySortedBy}
 use Rattle.std.specs.Option.{option_map_or}
-use Rattle.std.specs.Ordering.{int_cmp, int_eq}
+use Rattle.std.specs.Ordering.{int_eq}
 use Rattle.std.specs.declared.cmp.Ordering.TheVariants.{Less}
 use Rattle.std.proofs.lemmas.Bool.{cases_Bool, false≢true}
 use Rattle.std.proofs.lemmas.Bool.Decides.{Decides-int_eq}
@@ -17,8 +17,8 @@ use Rattle.part_rules.specs.declared.rule.Rule.{Rule}
 use Rattle.part_rules.specs.Placing.{part}
 use Rattle.plain_tables.specs.Rows.{Row, key_of, HasKey, by_key, Rises, holds_on, kept}
 use Rattle.plain_tables.specs.Partitions.{lies_in, rows_in, IsTable}
-use Rattle.plain_tables.specs.Inserts.{has_row, first_taken, put, put_all, AreRows, FindsKeys, FoundKeysTell, PutsKeepTables, PutsArePlaced}
-use Rattle.plain_tables.proofs.Members.{at_front, behind, either, nothing, all_of, all_by, kept_passes, passes_kept, one_list}
+use Rattle.plain_tables.specs.Inserts.{has_row, first_taken, put, put_all, FindsKeys, FoundKeysTell, PutsKeepTables, PutsArePlaced}
+use Rattle.plain_tables.proofs.Members.{at_front, behind, either, all_of, all_by, kept_passes, passes_kept, one_list}
 use Rattle.plain_tables.proofs.Merged.{keys_in_order}
 
 -- ORDER
@@ -30,15 +30,16 @@ below_is def a b less = rw less refl
 joined_rise : (def : TableDef) (xs : List Row) (row : Row) (ys : List Row) → Rises def xs → Rises def ys → AllByRecursion (λ r. by_key def r row ≡ Less) xs → AllByRecursion (λ r. by_key def row r ≡ Less) ys → Rises def (xs ++ row ∷ ys)
 unfolding IsStrictlySortedBy
 joined_rise def [] row ys left right below above = (above, right)
-joined_rise def (x ∷ xs) row ys left right below above =
-    (all_by (λ r. by_key def x r ≡ Less) (xs ++ row ∷ ys) (λ z c. elim (Contains-append_cases xs (row ∷ ys) z c) [
-          | inl early ↦ all_of (λ r. by_key def x r ≡ Less) xs z left.0 early
-          | inr late ↦ elim (either row z ys late) [
-              | inl same ↦ subst (λ r. by_key def x r ≡ Less) same below.0
-              | inr later ↦ (keys_in_order def).trans x row z below.0 (all_of (λ r. by_key def row r ≡ Less) ys z above later)
-            ]
-        ]),
-      joined_rise def xs row ys left.1 right below.1 above)
+joined_rise def (x ∷ xs) row ys left right below above = (
+  all_by (λ r. by_key def x r ≡ Less) (xs ++ row ∷ ys) (λ z c. elim (Contains-append_cases xs (row ∷ ys) z c) [
+    | inl early ↦ all_of (λ r. by_key def x r ≡ Less) xs z left.0 early
+    | inr late ↦ elim (either row z ys late) [
+      | inl same ↦ subst (λ r. by_key def x r ≡ Less) same below.0
+      | inr later ↦ (keys_in_order def).trans x row z below.0 (all_of (λ r. by_key def row r ≡ Less) ys z above later)
+    ]
+  ]),
+  joined_rise def xs row ys left.1 right below.1 above,
+)
 
 pub put_rises : (def : TableDef) (rows : List Row) (row : Row) → Rises def rows → Rises def (put def rows row)
 put_rises def rows row rises =
@@ -58,9 +59,9 @@ in_put def rows row z c =
     elim (Contains-append_cases (filter low rows) (row ∷ filter high rows) z c) [
       | inl early ↦ let at = kept_passes low rows z early in let less : int_lt (key_of def z) (key_of def row) ≡ true = at.1 in inr (at.0, grind (arith, ints))
       | inr late ↦ elim (either row z (filter high rows) late) [
-          | inl same ↦ inl same
-          | inr later ↦ let at = kept_passes high rows z later in let more : int_lt (key_of def row) (key_of def z) ≡ true = at.1 in inr (at.0, grind (arith, ints))
-        ]
+        | inl same ↦ inl same
+        | inr later ↦ let at = kept_passes high rows z later in let more : int_lt (key_of def row) (key_of def z) ≡ true = at.1 in inr (at.0, grind (arith, ints))
+      ]
     ]
 
 pub new_in_put : (def : TableDef) (rows : List Row) (row : Row) → Contains (put def rows row) row
@@ -74,16 +75,16 @@ old_in_put def rows row z c other =
     elim (cases_Bool (low z)) [
       | inl less ↦ Contains-append_left (filter low rows) (row ∷ filter high rows) z (passes_kept low rows z c less)
       | inr not_less ↦ let less : int_lt (key_of def z) (key_of def row) ≡ false = not_less in let more : int_lt (key_of def row) (key_of def z) ≡ true = grind (arith, ints) in
-        Contains-append_right (filter low rows) (row ∷ filter high rows) z (behind row z (filter high rows) (passes_kept high rows z c more))
+          Contains-append_right (filter low rows) (row ∷ filter high rows) z (behind row z (filter high rows) (passes_kept high rows z c more))
     ]
 
 -- TABLES
 
 put_keeps : (def : TableDef) (P : Row → Type 0) (rows : List Row) (row : Row) → AllByRecursion P rows → P row → AllByRecursion P (put def rows row)
 put_keeps def P rows row all here = all_by P (put def rows row) (λ z c. elim (in_put def rows row z c) [
-      | inl same ↦ subst P same here
-      | inr old ↦ all_of P rows z all old.0
-    ])
+  | inl same ↦ subst P same here
+  | inr old ↦ all_of P rows z all old.0
+])
 
 put_is_table : (def : TableDef) (rule : Rule) (rows : List Row) (row : Row) → IsTable def rule rows → HasKey def row → IsSome (part rule (key_of def row)) → IsTable def rule (put def rows row)
 put_is_table def rule rows row table keyed placed =
@@ -120,12 +121,12 @@ put_placed def rule rows row p false elsewhere rises =
       | inr old ↦ passes_kept inside rows z old.0 at.1
     ])
     (λ z c. let at = kept_passes inside rows z c in
-      let other : int_eq (key_of def z) (key_of def row) ≡ false = elim (cases_Bool (int_eq (key_of def z) (key_of def row))) [
-          | inl same ↦ let key : key_of def z ≡ key_of def row = (Decides-int_eq (key_of def z) (key_of def row)).0 same in
-            let out : inside z ≡ false = ap (λ (k : ℤ). option_map_or (λ (q : ℕ). q == p) (part rule k) false) key ∙ elsewhere in absurd (false≢true (sym out ∙ at.1))
-          | inr apart ↦ apart
-        ] in
-      passes_kept inside (put def rows row) z (old_in_put def rows row z at.0 other) at.1)
+    let other : int_eq (key_of def z) (key_of def row) ≡ false = elim (cases_Bool (int_eq (key_of def z) (key_of def row))) [
+      | inl same ↦ let key : key_of def z ≡ key_of def row = (Decides-int_eq (key_of def z) (key_of def row)).0 same in
+          let out : inside z ≡ false = ap (λ (k : ℤ). option_map_or (λ (q : ℕ). q == p) (part rule k) false) key ∙ elsewhere in absurd (false≢true (sym out ∙ at.1))
+      | inr apart ↦ apart
+    ] in
+    passes_kept inside (put def rows row) z (old_in_put def rows row z at.0 other) at.1)
 
 placed_by : (def : TableDef) (rule : Rule) (rows : List Row) (row : Row) (more : List Row) (p : ℕ) (b : Bool) → lies_in def rule p row ≡ b
     → put_all def (cond b (put def (rows_in def rule p rows) row) (rows_in def rule p rows)) (rows_in def rule p more) ≡ put_all def (rows_in def rule p rows) (cond b (row ∷ rows_in def rule p more) (rows_in def rule p more))
@@ -159,12 +160,12 @@ found_alike def (row ∷ rows) cond keys key finds listed =
     elim (cases_Bool (holds_on def cond row)) [
       | inl stays ↦ rw (stays, rest) refl
       | inr goes ↦
-        let unlisted : list_any (int_eq (key_of def row)) keys ≡ false = sym finds.0 ∙ goes in
-        let other : int_eq (key_of def row) key ≡ false = elim (cases_Bool (int_eq (key_of def row) key)) [
+          let unlisted : list_any (int_eq (key_of def row)) keys ≡ false = sym finds.0 ∙ goes in
+          let other : int_eq (key_of def row) key ≡ false = elim (cases_Bool (int_eq (key_of def row) key)) [
             | inl same ↦ let is : key_of def row ≡ key = (Decides-int_eq (key_of def row) key).0 same in absurd (false≢true (sym unlisted ∙ (ap (λ k. list_any (int_eq k) keys) is ∙ listed)))
             | inr apart ↦ apart
           ] in
-        rw (goes, other, rest) refl
+          rw (goes, other, rest) refl
     ]
 
 pub found_keys_tell : FoundKeysTell

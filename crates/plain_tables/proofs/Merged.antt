@@ -1,27 +1,23 @@
 -- What partitions have, merged, is what the table has.
-use Rattle.std.proofs.Common.{◌≡◌, ℕ, ◌==◌, ℤ, Bool, true, false, List, map, Option, Some, None, refl, arith, sym, ◌∙◌, ap, subst}
-use Rattle.std.specs.Prelude.{◌↔◌, IsSome, slice_get, FitsSigned}
-use Rattle.std.specs.Int.{w64}
-use Rattle.std.specs.List.{AllByRecursion, Contains, filter, flat_map}
+use Rattle.std.proofs.Common.{◌≡◌, ℕ, ◌==◌, true, false, List, map, Option, Some, None, refl, arith, sym, ◌∙◌, ap, subst}
+use Rattle.std.specs.Prelude.{IsSome}
+use Rattle.std.specs.List.{Contains, flat_map}
 use Rattle.std.specs.Option.{option_map_or}
 use Rattle.std.specs.Cmp.{IsTotalOrder}
-use Rattle.std.specs.Ordering.{int_cmp}
 use Rattle.std.proofs.lemmas.Cmp.{int_cmp_total, on_total}
 use Rattle.std.proofs.lemmas.List.Folds.{flat_map-map}
 use Rattle.std.proofs.lemmas.List.Kept.{IsStrictlySortedBy-filter}
 use Rattle.sql_values.specs.declared.places.Interval.{Interval}
 use Rattle.sql_values.specs.declared.table.TableDef.{TableDef}
 use Rattle.sql_values.specs.declared.tree.Cond.{Cond}
-use Rattle.sql_values.specs.Conditions.{cond_holds}
 use Rattle.sql_values.specs.KeySets.{AreKeys, has_key}
 use Rattle.part_rules.specs.declared.rule.Rule.{Rule}
-use Rattle.part_rules.specs.Keeps.{keeps}
 use Rattle.part_rules.specs.KeyRows.{HasOwnKeyName}
 use Rattle.part_rules.specs.Placing.{part}
 use Rattle.part_rules.specs.Pruned.{IsPruned}
 use Rattle.part_rules.proofs.KeptKeys.{conditions_keep_keys}
-use Rattle.plain_tables.specs.Rows.{Row, key_of, HasKey, by_key, Rises, holds_on, kept}
-use Rattle.plain_tables.specs.Partitions.{lies_in, rows_in, IsTable, IsMerged, may_keep, PartitionsAreMerged, RowsMergeInOneWay}
+use Rattle.plain_tables.specs.Rows.{Row, key_of, HasKey, by_key, holds_on, kept}
+use Rattle.plain_tables.specs.Partitions.{lies_in, rows_in, may_keep, PartitionsAreMerged, RowsMergeInOneWay}
 use Rattle.plain_tables.proofs.Members.{all_of, kept_passes, passes_kept, in_lists, from_list, one_list}
 
 pub keys_in_order : (def : TableDef) → IsTotalOrder (by_key def)
@@ -53,9 +49,10 @@ partitions_are_merged def rule rows cond keys parts own table are pruned =
       rises = IsStrictlySortedBy-filter (by_key def) (holds_on def cond) rows table.rises;
       rows = λ row. (
         (λ c. let all = kept_passes (holds_on def cond) rows row c in
-          let at = placed def rule cond keys parts row (part rule (key_of def row)) refl (all_of (λ r. IsSome (part rule (key_of def r))) rows row table.placed all.0) own (all_of (HasKey def) rows row table.keyed all.0) all.1 are pruned in
-          subst (λ l. Contains l row) (sym flat) (from_list found parts at.0 row at.1 (passes_kept (holds_on def cond) (rows_in def rule at.0 rows) row (passes_kept (lies_in def rule at.0) rows row all.0 at.2) all.1))),
+            let at = placed def rule cond keys parts row (part rule (key_of def row)) refl (all_of (λ r. IsSome (part rule (key_of def r))) rows row table.placed all.0) own (all_of (HasKey def) rows row table.keyed all.0) all.1 are pruned in
+            subst (λ l. Contains l row) (sym flat) (from_list found parts at.0 row at.1 (passes_kept (holds_on def cond) (rows_in def rule at.0 rows) row (passes_kept (lies_in def rule at.0) rows row all.0 at.2) all.1))),
         (λ c. let at = in_lists found parts row (subst (λ l. Contains l row) flat c) in
-          let here = kept_passes (holds_on def cond) (rows_in def rule at.0 rows) row at.2 in
-          passes_kept (holds_on def cond) rows row (kept_passes (lies_in def rule at.0) rows row here.0).0 here.1))
+            let here = kept_passes (holds_on def cond) (rows_in def rule at.0 rows) row at.2 in
+            passes_kept (holds_on def cond) rows row (kept_passes (lies_in def rule at.0) rows row here.0).0 here.1),
+      );
     }

@@ -1,16 +1,15 @@
 -- A statement is what its scan finds.
-use Rattle.std.proofs.Common.{◌≡◌, ℕ, ℤ, pos, Bool, ◌||◌, true, false, List, [], ◌∷◌, ◌++◌, map, Option, Some, None, IsSomeAnd, refl, sym, ◌∙◌, ap, subst, inl, inr, find}
+use Rattle.std.proofs.Common.{◌≡◌, ℕ, ℤ, Bool, ◌||◌, true, false, List, [], ◌∷◌, ◌++◌, map, Option, Some, None, IsSomeAnd, refl, sym, ◌∙◌, ap}
 use Rattle.std.specs.Prelude.{◌↔◌, slice_get}
-use Rattle.std.specs.List.{AllByRecursion, Contains, filter, list_any}
+use Rattle.std.specs.List.{AllByRecursion, Contains, list_any}
 use Rattle.std.specs.Option.{option_map, option_map_or, option_or}
 use Rattle.std.specs.Ordering.{int_eq}
-use Rattle.std.specs.Cmp.Lexicographic.{pointwise, bytes_decides}
+use Rattle.std.specs.Cmp.Lexicographic.{bytes_decides}
 use Rattle.std.specs.Cmp.{both_ways}
 use Rattle.std.proofs.lemmas.Bool.Decides.{Decides-int_eq}
 use Rattle.std.proofs.lemmas.Cmp.{int_eq_equiv}
 use Rattle.std.proofs.lemmas.List.Elements.{filter_agree}
 use Rattle.std.proofs.lemmas.Map.Views.{list_any-from_Contains, Contains-from_any}
-use Rattle.sql_values.specs.declared.literal.Literal.{Literal}
 use Rattle.sql_values.specs.declared.literal.Literal.TheVariants as literal
 use Rattle.sql_values.specs.declared.table.ColumnDef.{ColumnDef}
 use Rattle.sql_values.specs.declared.table.Kind.TheVariants.{BigInt}
@@ -21,33 +20,28 @@ use Rattle.sql_values.specs.declared.tree.Cond.{Cond, Cond-F}
 use Rattle.sql_values.specs.declared.tree.Cond.TheFolds.{fold-roll-Cond}
 use Rattle.sql_values.specs.declared.tree.Cond.TheVariants.{rolls-In}
 use Rattle.sql_values.specs.declared.value.Value.{Value}
-use Rattle.sql_values.specs.declared.value.Value.TheVariants as value
 use Rattle.sql_values.specs.Checks.{first_column, is_unknown, cond_columns}
 use Rattle.sql_values.specs.Conditions.{cond_holds, layer_holds, compares, literal_of}
 use Rattle.part_rules.specs.declared.rule.Rule.{Rule}
 use Rattle.part_rules.specs.Keeps.{names_key}
 use Rattle.part_rules.specs.KeyRows.{HasOwnKeyName}
 use Rattle.part_rules.proofs.KeptKeys.{key_value}
-use Rattle.sql_text.specs.declared.statement.Insert.{Insert}
 use Rattle.sql_text.specs.declared.statement.Select.{Select}
 use Rattle.sql_text.specs.declared.statement.Statement.{Statement}
 use Rattle.sql_text.specs.declared.statement.Statement.TheVariants as statement
-use Rattle.sql_text.specs.declared.statement.Tab.{Tab}
-use Rattle.stmt_plan.specs.declared.fault.StmtFault.{StmtFault}
 use Rattle.stmt_plan.specs.declared.fault.StmtFault.TheVariants.{NoColumn}
 use Rattle.stmt_plan.specs.declared.planned.Plan.{Plan}
 use Rattle.stmt_plan.specs.Inserts.{rows_of, row_key, AreRising, in_keys, key_name}
 use Rattle.stmt_plan.specs.Plans.{IsPlan}
 use Rattle.stmt_plan.specs.Plans.{IsTable as IsDefinition}
-use Rattle.stmt_plan.specs.Refusals.{refusal, no_column}
+use Rattle.stmt_plan.specs.Refusals.{no_column}
 use Rattle.stmt_plan.specs.Selects.{known_as, item_columns, picks_of, unqualified}
 use Rattle.stmt_plan.proofs.BareNames.{unqualified_means_the_same}
 use Rattle.stmt_plan.proofs.Seeks.{first-append}
 use Rattle.plain_tables.specs.Rows.{Row, key_of, HasKey, holds_on, kept}
 use Rattle.plain_tables.specs.Inserts.{has_row, first_taken, put_all, FindsKeys}
-use Rattle.plain_tables.specs.Partitions.{IsTable, IsMerged, rows_in}
-use Rattle.plain_tables.specs.Statements.{Answer, Found, cells_of, inserted, inserted_by, executed, executed_by, done_by, finished, added_by, applied, StatementsAreScans, StatementsAreMerged}
-use Rattle.plain_tables.proofs.Members.{all_of, all_by}
+use Rattle.plain_tables.specs.Partitions.{IsTable, rows_in}
+use Rattle.plain_tables.specs.Statements.{Found, cells_of, inserted_by, executed_by, done_by, finished, added_by, applied, StatementsAreScans, StatementsAreMerged}
 use Rattle.plain_tables.proofs.Merged.{partitions_are_merged, rows_merge_in_one_way}
 use Rattle.plain_tables.proofs.Inserted.{found_keys_tell}
 
@@ -70,7 +64,7 @@ pushed_means : (def : TableDef) (select : Select) (c : Option Cond) (row : Row) 
 pushed_means def select None row known = refl
 pushed_means def select (Some c) row known =
     let parts = both_none (first_column (is_unknown (known_as def select.tab ∷ [])) (item_columns select.items)) (first_column (is_unknown (known_as def select.tab ∷ [])) (cond_columns c))
-        (sym (first-append (is_unknown (known_as def select.tab ∷ [])) (item_columns select.items) (cond_columns c)) ∙ known) in
+    (sym (first-append (is_unknown (known_as def select.tab ∷ [])) (item_columns select.items) (cond_columns c)) ∙ known) in
     unqualified_means_the_same def select.tab row c parts.1
 
 -- KEYS OF AN INSERT
@@ -138,5 +132,5 @@ statements_are_scans number def rule s plan rows is table passes planned =
 pub statements_are_merged : StatementsAreMerged
 statements_are_merged number def rule s plan rows all is table passes planned merged =
     let same = rows_merge_in_one_way def (map (λ p. kept def plan.cond (rows_in def rule p rows)) plan.parts) (kept def plan.cond rows) all
-        (partitions_are_merged def rule rows plan.cond plan.keys plan.parts (own_key def is) table planned.keys planned.parts) merged in
+    (partitions_are_merged def rule rows plan.cond plan.keys plan.parts (own_key def is) table planned.keys planned.parts) merged in
     statements_are_scans number def rule s plan rows is table passes planned ∙ ap (λ found. applied def rows (finished def plan.work found)) same

@@ -1,5 +1,5 @@
 -- What an INSERT does to a plain table.
-use Rattle.std.specs.Prelude.{◌≡◌, ℤ, ◌||◌, Bool, true, false, List, [], ◌∷◌, ◌++◌, map, Option, Some, None, if◌then◌else◌, int_lt, IsSome, ℕ, length}
+use Rattle.std.specs.Prelude.{◌≡◌, ℤ, ◌||◌, Bool, List, [], ◌∷◌, ◌++◌, Option, Some, None, if◌then◌else◌, int_lt, IsSome, ℕ}
 use Rattle.std.specs.List.{AllByRecursion, filter, list_any}
 use Rattle.std.specs.Ordering.{int_eq}
 use Rattle.sql_values.specs.declared.table.TableDef.{TableDef}

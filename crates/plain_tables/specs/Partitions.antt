@@ -1,5 +1,5 @@
 -- The rows of a partition, and merging.
-use Rattle.std.specs.Prelude.{◌≡◌, ℕ, ◌==◌, ℤ, Bool, true, false, List, Option, Some, None, map, ◌↔◌, IsSome}
+use Rattle.std.specs.Prelude.{◌≡◌, ℕ, ◌==◌, ℤ, Bool, true, false, List, Option, map, ◌↔◌, IsSome}
 use Rattle.std.specs.List.{AllByRecursion, Contains, filter, flat_map}
 use Rattle.std.specs.Option.{option_map_or}
 use Rattle.sql_values.specs.declared.places.Interval.{Interval}

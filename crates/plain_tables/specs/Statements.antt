@@ -1,14 +1,11 @@
 -- What a statement on one table answers, and what it leaves.
-use Rattle.std.specs.Prelude.{◌≡◌, ℕ, ℤ, pos, Bool, true, false, List, [], ◌∷◌, Option, Some, None, map, length, slice_get, unwrap_or}
-use Rattle.std.specs.List.{AllByRecursion, filter}
+use Rattle.std.specs.Prelude.{◌≡◌, ℕ, ℤ, List, [], Option, Some, None, map, length, slice_get}
 use Rattle.std.specs.Option.{option_map_or}
 use Rattle.sql_values.specs.declared.literal.Literal.{Literal}
 use Rattle.sql_values.specs.declared.literal.Literal.TheVariants as literal
 use Rattle.sql_values.specs.declared.table.TableDef.{TableDef}
-use Rattle.sql_values.specs.declared.tree.Cond.{Cond}
-use Rattle.sql_values.specs.Conditions.{cond_holds, literal_of}
+use Rattle.sql_values.specs.Conditions.{literal_of}
 use Rattle.part_rules.specs.declared.rule.Rule.{Rule}
-use Rattle.sql_text.specs.declared.statement.Insert.{Insert}
 use Rattle.sql_text.specs.declared.statement.Select.{Select}
 use Rattle.sql_text.specs.declared.statement.Statement.{Statement}
 use Rattle.sql_text.specs.declared.statement.Statement.TheVariants as statement
@@ -24,7 +21,7 @@ use Rattle.stmt_plan.specs.Refusals.{refusal}
 use Rattle.stmt_plan.specs.Selects.{known_as, picks_of}
 use Rattle.plain_tables.specs.Inserts.{has_row, first_taken, put_all}
 use Rattle.plain_tables.specs.Partitions.{IsTable, IsMerged, rows_in}
-use Rattle.plain_tables.specs.Rows.{Row, key_of, holds_on, kept}
+use Rattle.plain_tables.specs.Rows.{Row, key_of, kept}
 
 -- what a statement answers
 pub data Answer : Type 0 where

@@ -1,14 +1,13 @@
 -- What is merged of the parts.
-use Rattle.std.proofs.Common.{◌≡◌, ℕ, Bool, true, false, List, map, Option, Some, None, cond, refl, sym, ◌∙◌, ap, subst}
-use Rattle.std.specs.List.Sorted.{IsSortedBy, IsStableBy}
+use Rattle.std.proofs.Common.{◌≡◌, ℕ, Bool, true, false, List, map, Option, Some, None, cond, refl, sym, ◌∙◌, ap}
 use Rattle.std.proofs.lemmas.List.Folds.{flat_map-map}
 use Rattle.sql_text.specs.declared.link.LinkAnswer.{LinkAnswer}
 use Rattle.sql_text.specs.declared.link.LinkAnswer.TheVariants as answer
 use Rattle.front_rows.specs.Comparing.{before}
 use Rattle.front_rows.specs.Gathering.{answer_rows}
-use Rattle.front_rows.specs.Merging.{IsInOrder, IsMerged, IsTooLarge, is_too_large}
+use Rattle.front_rows.specs.Merging.{IsMerged, IsTooLarge, is_too_large}
 use Rattle.front_rows.proofs.Orders.{before_ranks}
-use Rattle.txn_phases.specs.Deeds.{Row, key_order, all_rows, merged, merged_within}
+use Rattle.txn_phases.specs.Deeds.{Row, key_order, merged, merged_within}
 use Rattle.txn_phases.specs.Sorting.{sorted_by}
 use Rattle.txn_phases.proofs.Sorted.{is_sorted_list}
 

@@ -1,5 +1,5 @@
 -- Insertion sorts, and keeps elements that tie in their order.
-use Rattle.std.proofs.Common.{◌≡◌, ℕ, suc, zero, ◌+◌, ◌<◌, ◌≤◌, Bool, true, false, not, ◌&&◌, cond, List, [], ◌∷◌, filter, length, get_or, refl, sym, ◌∙◌, ap, subst, arith, inl, inr, add-one}
+use Rattle.std.proofs.Common.{◌≡◌, ℕ, suc, zero, ◌+◌, ◌<◌, ◌≤◌, Bool, true, false, not, cond, List, [], ◌∷◌, filter, length, get_or, refl, sym, ◌∙◌, ap, arith, inl, inr, add-one}
 use Rattle.std.specs.Cmp.{IsStrictWeakOrder}
 use Rattle.std.specs.List.Sorted.{IsSortedBy, IsStableBy, ties}
 use Rattle.std.proofs.lemmas.Bool.{cases_Bool, false≢true, and_parts}
@@ -35,9 +35,9 @@ module _ {X : Type 0} (lt : X → X → Bool) (o : IsStrictWeakOrder lt) where
   insert_rises : (x : X) (xs : List X) → Rises lt xs → Rises lt (insert_by lt x xs)
   insert_rises x [] up = tt
   insert_rises x (y ∷ ys) up = elim (cases_Bool (lt y x)) [
-      | inl first ↦ rw first (behind_first x y ys first up (insert_rises x ys (rises_tail y ys up)))
-      | inr not_first ↦ rw not_first (not_first, up)
-    ]
+    | inl first ↦ rw first (behind_first x y ys first up (insert_rises x ys (rises_tail y ys up)))
+    | inr not_first ↦ rw not_first (not_first, up)
+  ]
 
   sorted_rises : (xs : List X) → Rises lt (sorted_by lt xs)
   unfolding sorted_by
@@ -47,27 +47,27 @@ module _ {X : Type 0} (lt : X → X → Bool) (o : IsStrictWeakOrder lt) where
   -- an element passes only those that don't tie where it does
   not_both : (z x y : X) → lt y x ≡ true → ties lt z x ≡ true → ties lt z y ≡ false
   not_both z x y first tied = elim (cases_Bool (ties lt z y)) [
-      | inl too ↦
-          let one = and_parts (not (lt z x)) (not (lt x z)) tied in
-          let other = and_parts (not (lt z y)) (not (lt y z)) too in
-          let below : lt y z ≡ false = grind (arith, other.1) in
-          let above : lt z x ≡ false = grind (arith, one.0) in
-          absurd (false≢true (sym (o.chain y z x below above) ∙ first))
-      | inr apart ↦ apart
-    ]
+    | inl too ↦
+        let one = and_parts (not (lt z x)) (not (lt x z)) tied in
+        let other = and_parts (not (lt z y)) (not (lt y z)) too in
+        let below : lt y z ≡ false = grind (arith, other.1) in
+        let above : lt z x ≡ false = grind (arith, one.0) in
+        absurd (false≢true (sym (o.chain y z x below above) ∙ first))
+    | inr apart ↦ apart
+  ]
 
   passing : (z x y : X) (more ys : List X) → lt y x ≡ true → filter (ties lt z) more ≡ filter (ties lt z) (x ∷ ys) → filter (ties lt z) (y ∷ more) ≡ filter (ties lt z) (x ∷ y ∷ ys)
   passing z x y more ys first same = elim (cases_Bool (ties lt z x)) [
-      | inl tied ↦ let apart : ties lt z y ≡ false = not_both z x y first tied in rw (apart, tied) (rw tied at same)
-      | inr other ↦ rw other (ap (λ l. cond (ties lt z y) (y ∷ l) l) (rw other at same))
-    ]
+    | inl tied ↦ let apart : ties lt z y ≡ false = not_both z x y first tied in rw (apart, tied) (rw tied at same)
+    | inr other ↦ rw other (ap (λ l. cond (ties lt z y) (y ∷ l) l) (rw other at same))
+  ]
 
   insert_keeps : (z x : X) (xs : List X) → filter (ties lt z) (insert_by lt x xs) ≡ filter (ties lt z) (x ∷ xs)
   insert_keeps z x [] = refl
   insert_keeps z x (y ∷ ys) = elim (cases_Bool (lt y x)) [
-      | inl first ↦ rw first (passing z x y (insert_by lt x ys) ys first (insert_keeps z x ys))
-      | inr not_first ↦ rw not_first refl
-    ]
+    | inl first ↦ rw first (passing z x y (insert_by lt x ys) ys first (insert_keeps z x ys))
+    | inr not_first ↦ rw not_first refl
+  ]
 
   sorted_keeps : (z : X) (xs : List X) → filter (ties lt z) (sorted_by lt xs) ≡ filter (ties lt z) xs
   unfolding sorted_by

@@ -1,5 +1,5 @@
 -- The first new key that is taken, key by key.
-use Rattle.std.proofs.Common.{◌≡◌, ◌<◌, ◌+◌, ℕ, ℤ, ◌||◌, not, Bool, true, false, List, [], ◌∷◌, map, drop, get_or, Option, Some, None, refl, arith, sym, ◌∙◌, ap, length, cond}
+use Rattle.std.proofs.Common.{◌≡◌, ◌<◌, ◌+◌, ℕ, ℤ, ◌||◌, true, false, List, ◌∷◌, map, drop, get_or, Some, None, arith, sym, ◌∙◌, ap, length, cond}
 use Rattle.std.specs.BTreeSet.{BTreeSet, contains}
 use Rattle.std.specs.Ordering.{int_cmp, int_eq}
 use Rattle.std.proofs.lemmas.List.{at_drop_more, at_drop_all}
@@ -26,10 +26,10 @@ here taken news i x is inside =
 pub looks_on : (place : ℕ) (found : List (List Row)) (news : List PlacedRow) (taken more : BTreeSet ℤ) (i : ℕ) (x : PlacedRow) → x ≡ get_or news i x → i < length news → Looking place found news taken i
     → contains int_cmp taken x.key ≡ false → ((k : ℤ) → contains int_cmp more k ≡ (int_eq x.key k || contains int_cmp taken k)) → Looking place found news more (i + 1)
 looks_on place found news taken more i x is inside looking free grown = record {
-    left =
+  left =
       same_taken (contains int_cmp more) (λ k. int_eq x.key k || contains int_cmp taken k) (map (λ (new : PlacedRow). new.key) (drop (i + 1) news)) (λ k listed. grown k)
-      ∙ (sym (here taken news i x is inside ∙ ap (λ b. cond b (Some x.key) (first_taken (λ k. int_eq x.key k || contains int_cmp taken k) (map (λ (new : PlacedRow). new.key) (drop (i + 1) news)))) free) ∙ looking.left)
-  }
+      ∙ (sym (here taken news i x is inside ∙ ap (λ b. cond b (Some x.key) (first_taken (λ k. int_eq x.key k || contains int_cmp taken k) (map (λ (new : PlacedRow). new.key) (drop (i + 1) news)))) free) ∙ looking.left);
+}
 
 pub found_taken : (place : ℕ) (found : List (List Row)) (news : List PlacedRow) (taken : BTreeSet ℤ) (i : ℕ) (x : PlacedRow) → x ≡ get_or news i x → i < length news → Looking place found news taken i
     → contains int_cmp taken x.key ≡ true → Some x.key ≡ taken_key place found news

@@ -1,5 +1,5 @@
 -- Weights tell how much is written at each server.
-use Rattle.std.proofs.Common.{◌≡◌, ◌<◌, ◌+◌, ◌-◌, ◌^◌, ◌==◌, ◌||◌, ℕ, Bool, true, false, List, [], ◌∷◌, map, min, refl, arith, sym, ◌∙◌, ap, cond, nat_lt, sum_by}
+use Rattle.std.proofs.Common.{◌≡◌, ◌<◌, ◌+◌, ◌-◌, ◌^◌, ◌==◌, ℕ, Bool, true, false, List, [], ◌∷◌, map, refl, arith, ◌∙◌, ap, cond, nat_lt}
 use Rattle.std.specs.List.{list_any}
 use Rattle.std.proofs.lemmas.List.Sums.{sum_by-cons}
 use Rattle.txn_phases.specs.declared.deed.PlacedRow.{PlacedRow}
@@ -30,8 +30,10 @@ below_the_cap most a b small same = grind arith
 
 heavy : (targets : List Target) (news : List PlacedRow) (server : ℕ) → is_heavy (map (weight_of news) targets) server ≡ is_long_write targets news server
 heavy targets news server =
-    rw (below_the_cap 10000 (total (λ (w : Weight). w.rows) (map (weight_of news) targets) server) (written (rows_at news) targets server) (omega arith) (rows_total targets news server),
-      below_the_cap 4194304 (total (λ (w : Weight). w.bytes) (map (weight_of news) targets) server) (written (bytes_at news) targets server) (omega arith) (bytes_total targets news server)) refl
+    rw (
+      below_the_cap 10000 (total (λ (w : Weight). w.rows) (map (weight_of news) targets) server) (written (rows_at news) targets server) (omega arith) (rows_total targets news server),
+      below_the_cap 4194304 (total (λ (w : Weight). w.bytes) (map (weight_of news) targets) server) (written (bytes_at news) targets server) (omega arith) (bytes_total targets news server),
+    ) refl
 
 any_heavy : (all : List Weight) (targets rest : List Target) (news : List PlacedRow) → all ≡ map (weight_of news) targets → list_any (λ (w : Weight). is_heavy all w.server) (map (weight_of news) rest) ≡ list_any (λ (t : Target). is_long_write targets news t.server) rest
 any_heavy all targets [] news is = refl

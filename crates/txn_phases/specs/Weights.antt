@@ -1,5 +1,5 @@
 -- What the code keeps of the rows that are to be written.
-use Rattle.std.specs.Prelude.{◌≡◌, ℕ, ◌-◌, ◌^◌, ◌==◌, Bool, ◌||◌, List, min, nat_lt, sum_by, if◌then◌else◌}
+use Rattle.std.specs.Prelude.{ℕ, ◌-◌, ◌^◌, ◌==◌, Bool, ◌||◌, List, min, nat_lt, sum_by, if◌then◌else◌}
 use Rattle.txn_phases.specs.declared.deed.PlacedRow.{PlacedRow}
 use Rattle.txn_phases.specs.declared.phase.Target.{Target}
 use Rattle.txn_phases.specs.declared.weight.Weight.{Weight}

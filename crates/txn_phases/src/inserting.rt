@@ -15,10 +15,7 @@ pub(crate) enum Inserting {
     /// It is given up.
     Refused(Outcome),
     /// The rows are put.
-    Writes {
-        outcome: Outcome,
-        asks: Asks,
-    },
+    Writes { outcome: Outcome, asks: Asks },
 }
 
 /// A new key that is taken gives the INSERT up, and so do too many rows; else each link gets its partition's rows.

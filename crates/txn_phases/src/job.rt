@@ -1,8 +1,8 @@
 ghost use Rattle.std.specs.Prelude.{◌≡◌};
 ghost use Rattle.txn_phases.specs.Phases.{is_begun as begins_branch, stage_of};
 
-use crate::inserting::{Inserting, plan_insert};
 use crate::forms::{is_done, is_rows};
+use crate::inserting::{Inserting, plan_insert};
 use crate::merging::merged_within;
 use crate::owed::{Owed, mark};
 use crate::requests::{Asks, Word, scans, servers_of, to_all, to_begun};
@@ -172,12 +172,7 @@ impl Job {
     }
 
     /// Rows that count are kept, and the first refusal.
-    fn keep(
-        &mut self,
-        server: ServerNo,
-        counts: bool,
-        answer: LinkAnswer,
-    ) -> Result<(), AllocError>
+    fn keep(&mut self, server: ServerNo, counts: bool, answer: LinkAnswer) -> Result<(), AllocError>
         ensures kept { IfOk result (λ _. self.new ≡ keeps server counts answer self.old) }
         ensures owed { OnErr result (owed_of self.new ≡ owed_of self.old) }
     {

@@ -21,9 +21,12 @@ mod phase;
 mod requests;
 mod weight;
 
-pub use forms::{LONGEST_TEXT, is_done, is_rows};
 pub use deed::{Deed, Outcome, PlacedRow, PlacedRows, Refusal};
+pub use forms::{LONGEST_TEXT, is_done, is_rows};
 pub use job::{Job, Kinds, TableScan};
 pub use owed::Owed;
 pub use phase::{Branch, Branches, Ending, Phase, Progress, Stage, Target, Targets};
 pub use requests::{Ask, Asks};
+
+#[cfg(test)]
+mod tests;

@@ -81,8 +81,5 @@ pub enum Progress {
     /// The transaction is decided; then as above.
     Decides(Asks),
     /// The statement is over.
-    Over {
-        ending: Ending,
-        outcome: Outcome,
-    },
+    Over { ending: Ending, outcome: Outcome },
 }

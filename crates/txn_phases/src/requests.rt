@@ -96,11 +96,7 @@ fn scan_of(alloc: Global, scan: &TableScan, target: &Target) -> Result<LinkReque
 }
 
 /// A scan of each link.
-pub(crate) fn scans(
-    alloc: Global,
-    scan: &TableScan,
-    targets: &[Target],
-) -> Result<Asks, AllocError>
+pub(crate) fn scans(alloc: Global, scan: &TableScan, targets: &[Target]) -> Result<Asks, AllocError>
     ensures { IfOk result (λ asks. asks ≡ scans_of scan.now targets.now) }
 {
     let mut asks = Listed::new(alloc);

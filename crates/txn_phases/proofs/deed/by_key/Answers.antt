@@ -1,4 +1,4 @@
-use Rattle.std.proofs.Common.{rules, sym, ◌∙◌, ap, []}
+use Rattle.std.proofs.Common.{rules, ◌∙◌, ap, []}
 use Rattle.std.specs.BTreeMap.{insert_entry}
 use Rattle.std.specs.Ordering.{int_cmp}
 use Rattle.txn_phases.specs.Deeds.{put_by_key, news_at}

@@ -1,6 +1,6 @@
-use Rattle.std.proofs.Common.{rules, SFits, w64, sym, ◌∙◌, ap, not, Some}
+use Rattle.std.proofs.Common.{rules, SFits, w64}
 use Rattle.std.proofs.lemmas.Int.{to_z-of_z}
-use Rattle.txn_phases.proofs.Taken.{looks_first, looks_on, found_taken, none_taken}
+use Rattle.txn_phases.proofs.Taken.{looks_on, found_taken, none_taken}
 use Rattle.txn_phases.proofs.deed.taken_key.Goals as goal
 
 pub returns-then-not-branch : goal.returns-then-not-branch
