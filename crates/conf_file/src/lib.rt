@@ -1,9 +1,16 @@
 //! The configuration file's entries.
 #![tactic(auto)]
 
+mod column;
 mod entries;
+mod fault;
+mod sections;
+mod texts;
 
+pub use column::read_column;
 pub use entries::{
     BoundEntry, ConfFile, FrontEntry, HostEntries, HostEntry, PartEntries, PartEntry, TableEntries,
     TableEntry, Texts, UserEntries, UserEntry,
 };
+pub use fault::{FileFault, TooMany};
+pub use texts::is_stored;

@@ -1,0 +1,10 @@
+pub mod Columns
+pub mod Texts
+pub mod Trees
+pub mod Sections
+pub mod Shown
+pub mod Keys
+pub mod Entries
+pub mod Names
+pub mod Counts
+pub mod Files
