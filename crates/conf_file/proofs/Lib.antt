@@ -1,3 +1,5 @@
 pub mod Numbers
 pub mod Cuts
 pub mod Ports
+pub mod Trees
+pub mod Firsts

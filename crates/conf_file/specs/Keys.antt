@@ -28,12 +28,19 @@ as_entries section tables = map (λ members. (section, members)) tables
 abbrev pub part_entries : Members → List Entry
 part_entries table = as_entries (Part (cut_of table)) (tables_at (codes "part") table)
 
+-- the front's section, where it is one
+abbrev pub front_entries : Members → List Entry
+front_entries tree = as_entries Front (option_to_list (table_at (codes "front") tree))
+
+-- the sections at a key
+abbrev pub section_entries : Section → List ℕ → Members → List Entry
+section_entries section key tree = as_entries section (tables_at key tree)
+
 -- the entries of a file: itself, its sections in their order, and the partitions of all tables; values of another type have none
 abbrev pub entries_in : Members → List Entry
 entries_in tree =
-    (File, tree) ∷ as_entries Front (option_to_list (table_at (codes "front") tree)) ++ as_entries User (tables_at (codes "user") tree) ++
-    as_entries Host (tables_at (codes "server") tree) ++ as_entries Host (tables_at (codes "monitor") tree) ++ as_entries Table (tables_at (codes "table") tree) ++
-    flat_map part_entries (tables_at (codes "table") tree)
+    (File, tree) ∷ (front_entries tree ++ (section_entries User (codes "user") tree ++ (section_entries Host (codes "server") tree ++
+    (section_entries Host (codes "monitor") tree ++ (section_entries Table (codes "table") tree ++ flat_map part_entries (tables_at (codes "table") tree))))))
 
 -- the name of the first of these keys that passes a test
 abbrev pub first_key : (KeyRule → Bool) → List KeyRule → Option (List ℕ)

@@ -4,8 +4,11 @@
 mod column;
 mod entries;
 mod fault;
+mod forms;
+mod keys;
 mod sections;
 mod texts;
+mod tree;
 
 pub use column::read_column;
 pub use entries::{

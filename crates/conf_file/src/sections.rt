@@ -28,6 +28,14 @@ pub(crate) enum Section {
     Part(Cut),
 }
 
+/// What the items of an array are.
+#[derive(Clone, Copy, Debug, PartialEq, Eq)]
+pub(crate) enum ItemType {
+    Text,
+    Number,
+    Table,
+}
+
 /// What the value at a key is.
 #[derive(Clone, Copy, Debug, PartialEq, Eq)]
 pub(crate) enum Form {
@@ -36,15 +44,11 @@ pub(crate) enum Form {
     Address,
     /// A number from 1 to 1000.
     BatchSize,
-    /// An array of texts.
-    Texts,
     /// A number, or the text `MAXVALUE`.
     Bound,
-    /// An array of numbers.
-    Numbers,
     Table,
-    /// An array of tables.
-    Tables,
+    /// An array that has nothing but these.
+    ArrayOf(ItemType),
 }
 
 /// The rules that keys can break.
@@ -95,10 +99,10 @@ impl Key {
 
 const FILE: [Key; 5] = [
     Key::Needed("front", Form::Table),
-    Key::Optional("user", Form::Tables),
-    Key::Optional("server", Form::Tables),
-    Key::Optional("monitor", Form::Tables),
-    Key::Optional("table", Form::Tables),
+    Key::Optional("user", Form::ArrayOf(ItemType::Table)),
+    Key::Optional("server", Form::ArrayOf(ItemType::Table)),
+    Key::Optional("monitor", Form::ArrayOf(ItemType::Table)),
+    Key::Optional("table", Form::ArrayOf(ItemType::Table)),
 ];
 
 const FRONT: [Key; 5] = [
@@ -121,11 +125,11 @@ const HOST: [Key; 2] = [
 
 const TABLE: [Key; 6] = [
     Key::Needed("name", Form::Text),
-    Key::Needed("columns", Form::Texts),
+    Key::Needed("columns", Form::ArrayOf(ItemType::Text)),
     Key::Needed("key", Form::Text),
     Key::Optional("comment", Form::Text),
     Key::Optional("partition", Form::Text),
-    Key::Optional("part", Form::Tables),
+    Key::Optional("part", Form::ArrayOf(ItemType::Table)),
 ];
 
 const RANGE_PART: [Key; 3] = [
@@ -137,7 +141,7 @@ const RANGE_PART: [Key; 3] = [
 const LIST_PART: [Key; 3] = [
     Key::Needed("name", Form::Text),
     Key::Optional("comment", Form::Text),
-    Key::Needed("in_list", Form::Numbers),
+    Key::Needed("in_list", Form::ArrayOf(ItemType::Number)),
 ];
 
 const HASH_PART: [Key; 2] = [
@@ -149,7 +153,7 @@ const ANY_PART: [Key; 4] = [
     Key::Needed("name", Form::Text),
     Key::Optional("comment", Form::Text),
     Key::Optional("less_than", Form::Bound),
-    Key::Optional("in_list", Form::Numbers),
+    Key::Optional("in_list", Form::ArrayOf(ItemType::Number)),
 ];
 
 /// The keys of a section, in their order.
