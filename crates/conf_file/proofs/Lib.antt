@@ -3,3 +3,4 @@ pub mod Cuts
 pub mod Ports
 pub mod Trees
 pub mod Firsts
+pub mod Takings

@@ -6,5 +6,6 @@ pub mod Shown
 pub mod Keys
 pub mod Entries
 pub mod Names
+pub mod Taken
 pub mod Counts
 pub mod Files

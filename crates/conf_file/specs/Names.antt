@@ -19,14 +19,22 @@ use Rattle.conf_file.specs.Texts.{is_same, is_short_name, is_stored_form}
 abbrev pub unless_good : Bool → List ℕ → Option FileFault
 unless_good good name = if good then None else Some (BadName name)
 
+-- a user has this name
+abbrev pub is_user : List UserEntry → List ℕ → Bool
+is_user users name = list_any (λ (user : UserEntry). is_same user.name name) users
+
 -- the front's name, and the user as which it logs in, who is one of the file's
 abbrev pub front_fault : ConfFile → Option FileFault
 front_fault file =
     option_or (unless_good (is_short_name file.front.name) file.front.name)
-    (unless_good (list_any (λ (user : UserEntry). is_same user.name file.front.user) file.users) file.front.user)
+    (unless_good (is_user file.users file.front.user) file.front.user)
+
+-- a user's password that is no stored form
+abbrev pub stored_fault : UserEntry → Option FileFault
+stored_fault user = if is_stored_form user.password then None else Some (BadStored user.name)
 
 abbrev pub user_fault : UserEntry → Option FileFault
-user_fault user = option_or (unless_good (is_name user.name) user.name) (if is_stored_form user.password then None else Some (BadStored user.name))
+user_fault user = option_or (unless_good (is_name user.name) user.name) (stored_fault user)
 
 -- no server is named as the front is in a transaction's history
 abbrev pub server_fault : HostEntry → Option FileFault

@@ -6,7 +6,9 @@ mod entries;
 mod fault;
 mod forms;
 mod keys;
+mod names;
 mod sections;
+mod taken;
 mod texts;
 mod tree;
 
