@@ -93,10 +93,16 @@ is_among names name = list_any (λ each. is_same each name) names
 abbrev pub taken_in_parts : TableEntry → Option (List ℕ)
 taken_in_parts table = first_taken all_free (map (λ (part : PartEntry). part.name) table.parts)
 
+-- the first user whose name is taken
+unfoldable pub taken_in_users : List UserEntry → Option (List ℕ)
+taken_in_users users = first_taken all_free (map (λ (user : UserEntry). user.name) users)
+
+-- the first server, or monitor, whose name is taken
+unfoldable pub taken_in_hosts : List HostEntry → Option (List ℕ)
+taken_in_hosts hosts = first_taken all_free (map (λ (host : HostEntry). host.name) hosts)
+
 -- the first name that is taken: users, servers, monitors, tables, the columns of a table and its parts are six spaces of names
 abbrev pub repeated_name : ConfFile → Option (List ℕ)
 repeated_name file =
-    option_or (first_taken all_free (map (λ (user : UserEntry). user.name) file.users))
-    (option_or (first_taken all_free (map (λ (server : HostEntry). server.name) file.servers))
-    (option_or (first_taken all_free (map (λ (monitor : HostEntry). monitor.name) file.monitors))
+    option_or (taken_in_users file.users) (option_or (taken_in_hosts file.servers) (option_or (taken_in_hosts file.monitors)
     (option_or (taken_in_tables (is_among system_tables) file.tables) (first_some taken_in_parts file.tables))))

@@ -6,5 +6,5 @@ use Rattle.std.specs.BTreeSet.{contains}
 use Rattle.conf_file.specs.declared.taken.TakenNames.{TakenNames}
 
 -- the name is taken
-abbrev pub is_taken : TakenNames → List ℕ → Bool
+unfoldable pub is_taken : TakenNames → List ℕ → Bool
 is_taken taken name = contains (slice_cmp nat_cmp) taken.names name

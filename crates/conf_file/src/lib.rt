@@ -2,11 +2,14 @@
 #![tactic(auto)]
 
 mod column;
+mod counts;
 mod entries;
 mod fault;
 mod forms;
 mod keys;
+mod making;
 mod names;
+mod repeats;
 mod sections;
 mod taken;
 mod texts;

@@ -25,6 +25,7 @@ const SYSTEM_TABLES: [&str; 5] = [
 
 impl TakenNames {
     /// No name is taken.
+    #[tactic(auto, unfolding(crate::specs::Taken::is_taken))]
     pub(crate) fn new(alloc: Global) -> TakenNames
         ensures { is_taken result ≡ all_free }
     {
@@ -43,6 +44,7 @@ impl TakenNames {
     }
 
     /// Takes a name, and says whether it was free.
+    #[tactic(auto, unfolding(crate::specs::Taken::is_taken))]
     pub(crate) fn take(&mut self, alloc: Global, name: &str) -> Result<bool, AllocError>
         ensures free { IfOk result (λ was_free. was_free ≡ not (is_taken self.old name.now)) }
         ensures taken { OnOk result (is_taken self.new ≡ with_name name.now (is_taken self.old)) }
