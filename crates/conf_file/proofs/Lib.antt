@@ -4,3 +4,4 @@ pub mod Ports
 pub mod Trees
 pub mod Firsts
 pub mod Takings
+pub mod Faults

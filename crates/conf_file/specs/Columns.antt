@@ -24,3 +24,7 @@ column_of text =
     else if is_name (before_first is_blank text)
     then option_map (λ kind. record { name = before_first is_blank text; kind = kind }) (kind_of (after_first is_blank text))
     else None
+
+-- the name of the column that a text writes
+unfoldable pub column_name : List ℕ → Option (List ℕ)
+column_name text = option_map (λ (column : ColumnDef). column.name) (column_of text)

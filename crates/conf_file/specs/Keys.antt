@@ -65,13 +65,13 @@ broken_in Unknown (section, members) = find (λ key. not (is_known section key))
 broken_in WrongType (section, members) = first_key (is_wrong members) (keys_of section)
 
 -- the first key that is needed and isn't there
-abbrev pub missing_key : Members → Option (List ℕ)
+unfoldable pub missing_key : Members → Option (List ℕ)
 missing_key tree = first_some (broken_in Missing) (entries_in tree)
 
 -- the first key that isn't among those of its section
-abbrev pub unknown_key : Members → Option (List ℕ)
+unfoldable pub unknown_key : Members → Option (List ℕ)
 unknown_key tree = first_some (broken_in Unknown) (entries_in tree)
 
 -- the first key whose value has another form
-abbrev pub wrong_type : Members → Option (List ℕ)
+unfoldable pub wrong_type : Members → Option (List ℕ)
 wrong_type tree = first_some (broken_in WrongType) (entries_in tree)

@@ -1,9 +1,8 @@
 -- The rules of names: each is one, and none is taken.
 use Rattle.std.specs.Prelude.{ℕ, Bool, false, not, ◌&&◌, ◌||◌, if◌then◌else◌, List, [], ◌∷◌, map, codes, Option, Some, None}
 use Rattle.std.specs.List.{list_any, filter_map}
-use Rattle.std.specs.Option.{option_or, option_map}
+use Rattle.std.specs.Option.{option_or}
 use Rattle.sql_values.specs.Names.{is_name}
-use Rattle.sql_values.specs.declared.table.ColumnDef.{ColumnDef}
 use Rattle.conf_file.specs.declared.entries.ConfFile.{ConfFile}
 use Rattle.conf_file.specs.declared.entries.UserEntry.{UserEntry}
 use Rattle.conf_file.specs.declared.entries.HostEntry.{HostEntry}
@@ -11,7 +10,7 @@ use Rattle.conf_file.specs.declared.entries.TableEntry.{TableEntry}
 use Rattle.conf_file.specs.declared.entries.PartEntry.{PartEntry}
 use Rattle.conf_file.specs.declared.fault.FileFault.{FileFault}
 use Rattle.conf_file.specs.declared.fault.FileFault.TheVariants.{BadName, BadStored}
-use Rattle.conf_file.specs.Columns.{column_of}
+use Rattle.conf_file.specs.Columns.{column_name}
 use Rattle.conf_file.specs.Keys.{first_some}
 use Rattle.conf_file.specs.Texts.{is_same, is_short_name, is_stored_form}
 
@@ -53,7 +52,7 @@ abbrev pub parts_fault : TableEntry → Option FileFault
 parts_fault table = first_some part_fault table.parts
 
 -- the first name that isn't one, or password that is no stored form, in the order of entries and keys
-abbrev pub bad_name : ConfFile → Option FileFault
+unfoldable pub bad_name : ConfFile → Option FileFault
 bad_name file =
     option_or (front_fault file) (option_or (first_some user_fault file.users) (option_or (first_some server_fault file.servers)
     (option_or (first_some monitor_fault file.monitors) (option_or (first_some table_fault file.tables) (first_some parts_fault file.tables)))))
@@ -73,7 +72,7 @@ first_taken taken (name ∷ names) = if taken name then Some name else first_tak
 
 -- the names of the columns whose texts are columns
 abbrev pub column_names : List (List ℕ) → List (List ℕ)
-column_names texts = filter_map (λ text. option_map (λ (column : ColumnDef). column.name) (column_of text)) texts
+column_names texts = filter_map column_name texts
 
 -- the first table whose name is taken, or the first of its columns, or what is found in the tables after it
 abbrev pub taken_in_tables : (List ℕ → Bool) → List TableEntry → Option (List ℕ)
@@ -102,7 +101,7 @@ unfoldable pub taken_in_hosts : List HostEntry → Option (List ℕ)
 taken_in_hosts hosts = first_taken all_free (map (λ (host : HostEntry). host.name) hosts)
 
 -- the first name that is taken: users, servers, monitors, tables, the columns of a table and its parts are six spaces of names
-abbrev pub repeated_name : ConfFile → Option (List ℕ)
+unfoldable pub repeated_name : ConfFile → Option (List ℕ)
 repeated_name file =
     option_or (taken_in_users file.users) (option_or (taken_in_hosts file.servers) (option_or (taken_in_hosts file.monitors)
     (option_or (taken_in_tables (is_among system_tables) file.tables) (first_some taken_in_parts file.tables))))

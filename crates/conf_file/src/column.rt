@@ -3,7 +3,7 @@
 ghost use Rattle.std.specs.Prelude.{◌≡◌, IfOk, IfSome, codes};
 ghost use Rattle.std.specs.Option.{option_copied, option_map};
 ghost use Rattle.sql_values.specs.Names.{IsName};
-ghost use Rattle.conf_file.specs.Columns.{column_of, kind_of};
+ghost use Rattle.conf_file.specs.Columns.{column_of, column_name as name_in, kind_of};
 ghost use Rattle.conf_file.specs.Shown.{shown_column};
 ghost use Rattle.conf_file.specs.Texts.{between};
 
@@ -41,7 +41,7 @@ fn read_kind(text: &str) -> Option<Kind>
 }
 
 /// The name and the type of a column, where a text is that of one.
-pub(crate) fn column_parts(text: &str) -> Option<(&str, Kind)>
+fn column_parts(text: &str) -> Option<(&str, Kind)>
     ensures value { option_map shown_column result ≡ column_of text.now }
     ensures name { IfSome result (λ parts. IsName parts.0.now) }
 {
@@ -55,6 +55,17 @@ pub(crate) fn column_parts(text: &str) -> Option<(&str, Kind)>
                 None => None,
             }
         }
+        None => None,
+    }
+}
+
+/// The name of a column, where a text is that of one.
+#[tactic(auto, unfolding(crate::specs::Columns::column_name))]
+pub(crate) fn column_name(text: &str) -> Option<&str>
+    ensures { option_copied result ≡ name_in text.now }
+{
+    match column_parts(text) {
+        Some((name, _kind)) => Some(name),
         None => None,
     }
 }

@@ -5,7 +5,7 @@ ghost use Rattle.std.specs.List.{filter_map, flat_map};
 ghost use Rattle.std.specs.Option.{is_some, option_copied};
 ghost use Rattle.toml.specs.Data.{as_table as table_in};
 ghost use Rattle.toml.specs.View.{view, table_view};
-ghost use Rattle.conf_file.specs.Keys.{is_known as is_known_key, broken_in, first_some, as_entries, part_entries, section_entries, front_entries};
+ghost use Rattle.conf_file.specs.Keys.{is_known as is_known_key, broken_in, first_some, as_entries, part_entries, section_entries, front_entries, missing_key as missing_key_of, unknown_key as unknown_key_of, wrong_type as wrong_type_of};
 ghost use Rattle.conf_file.specs.Shown.{broken_in_parts, broken_by_section};
 ghost use Rattle.conf_file.specs.Trees.{tables_at as tables_there};
 
@@ -136,7 +136,7 @@ fn first_of_front(fault: KeyFault, tree: &Table) -> Option<&str>
 }
 
 /// The first key that breaks a rule, in the order of the sections.
-pub(crate) fn first_broken(fault: KeyFault, tree: &Table) -> Option<&str>
+fn first_broken(fault: KeyFault, tree: &Table) -> Option<&str>
     ensures { option_copied result ≡ broken_by_section fault (table_view tree.now) }
 {
     if let Some(key) = first_in(fault, Section::File, tree) {
@@ -158,4 +158,25 @@ pub(crate) fn first_broken(fault: KeyFault, tree: &Table) -> Option<&str>
         return Some(key);
     }
     first_at_parts(fault, tree)
+}
+
+/// The first key that is needed and isn't there.
+pub(crate) fn missing_key(tree: &Table) -> Option<&str>
+    ensures { option_copied result ≡ missing_key_of (table_view tree.now) }
+{
+    first_broken(KeyFault::Missing, tree)
+}
+
+/// The first key that isn't among those of its section.
+pub(crate) fn unknown_key(tree: &Table) -> Option<&str>
+    ensures { option_copied result ≡ unknown_key_of (table_view tree.now) }
+{
+    first_broken(KeyFault::Unknown, tree)
+}
+
+/// The first key whose value has another form.
+pub(crate) fn wrong_type(tree: &Table) -> Option<&str>
+    ensures { option_copied result ≡ wrong_type_of (table_view tree.now) }
+{
+    first_broken(KeyFault::WrongType, tree)
 }

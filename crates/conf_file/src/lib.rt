@@ -9,6 +9,7 @@ mod forms;
 mod keys;
 mod making;
 mod names;
+mod reading;
 mod repeats;
 mod sections;
 mod taken;
@@ -21,4 +22,5 @@ pub use entries::{
     TableEntry, Texts, UserEntries, UserEntry,
 };
 pub use fault::{FileFault, TooMany};
+pub use reading::read_file;
 pub use texts::is_stored;

@@ -132,6 +132,7 @@ fn check_all_parts(alloc: Global, tables: &[TableEntry]) -> Result<(), FileFault
 }
 
 /// Checks that each name is one, and each password a stored form.
+#[tactic(auto, unfolding(crate::specs::Names::bad_name))]
 pub(crate) fn check_names(alloc: Global, file: &ConfFile) -> Result<(), FileFault>
     ensures { Tells (bad_name file.now) result }
 {

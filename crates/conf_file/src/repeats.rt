@@ -7,7 +7,7 @@ ghost use Rattle.conf_file.specs.Keys.{first_some};
 ghost use Rattle.conf_file.specs.Names.{all_free, with_name, first_taken, column_names, taken_in_users, taken_in_hosts, taken_in_tables, is_among, system_tables, taken_in_parts, repeated_name};
 ghost use Rattle.conf_file.specs.Taken.{is_taken};
 
-use crate::column::column_parts;
+use crate::column::column_name;
 use crate::taken::TakenNames;
 use crate::{ConfFile, FileFault, HostEntry, PartEntry, TableEntry, UserEntry};
 use list_types::Text;
@@ -89,7 +89,7 @@ fn check_columns(alloc: Global, columns: &[Text]) -> Result<(), FileFault>
 {
     let mut names = TakenNames::new(alloc);
     for column in columns {
-        let Some((name, _kind)) = column_parts(column.as_str()) else {
+        let Some(name) = column_name(column.as_str()) else {
             continue;
         };
         take_free(alloc, &mut names, name)?;
@@ -118,6 +118,7 @@ fn check_parts(alloc: Global, tables: &[TableEntry]) -> Result<(), FileFault>
 }
 
 /// Checks that no name is taken.
+#[tactic(auto, unfolding(crate::specs::Names::repeated_name))]
 pub(crate) fn check_repeats(alloc: Global, file: &ConfFile) -> Result<(), FileFault>
     ensures { Tells (option_map FileFault.RepeatedName (repeated_name file.now)) result }
 {
