@@ -21,9 +21,13 @@ first_some_append answer (x ∷ xs) ys = rw (first_some_append answer xs ys) (or
 pub first_of_sections : (fault : KeyFault) (tree : Members) → first_some (broken_in fault) (entries_in tree) ≡ broken_by_section fault tree
 first_of_sections fault tree =
     let answer : Entry → Option (List ℕ) = broken_in fault in
-    rw (first_some_append answer (front_entries tree) _, first_some_append answer (section_entries User (codes "user") tree) _,
-    first_some_append answer (section_entries Host (codes "server") tree) _, first_some_append answer (section_entries Host (codes "monitor") tree) _,
-    first_some_append answer (section_entries Table (codes "table") tree) _)
+    rw (
+      first_some_append answer (front_entries tree) _,
+      first_some_append answer (section_entries User (codes "user") tree) _,
+      first_some_append answer (section_entries Host (codes "server") tree) _,
+      first_some_append answer (section_entries Host (codes "monitor") tree) _,
+      first_some_append answer (section_entries Table (codes "table") tree) _,
+    )
 
 table_first : (fault : KeyFault) (table : Option Members) (more : List Members) →
     first_some (broken_in fault) (flat_map part_entries (cons_option table more)) ≡

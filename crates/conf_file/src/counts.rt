@@ -7,15 +7,21 @@ ghost use Rattle.conf_file.specs.Counts.{too_many as too_many_of, has_too_many_c
 use crate::{ConfFile, TableEntry, TooMany};
 
 const MOST_SERVERS: usize = 16;
+
 const MOST_MONITORS: usize = 9;
+
 const MOST_TABLES: usize = 64;
+
 const MOST_COLUMNS: usize = 16;
+
 const MOST_PARTS: usize = 64;
 
 fn any_has_too_many_columns(tables: &[TableEntry]) -> bool
     ensures { result ≡ list_any has_too_many_columns tables.now }
 {
-    tables.iter().any(|table| table.columns.len() > MOST_COLUMNS)
+    tables
+        .iter()
+        .any(|table| table.columns.len() > MOST_COLUMNS)
 }
 
 fn any_has_too_many_parts(tables: &[TableEntry]) -> bool

@@ -86,12 +86,7 @@ fn first_of(fault: KeyFault, section: Section, values: &[Value]) -> Option<&str>
 }
 
 /// The first key that breaks a rule in the sections at a key of the file.
-fn first_at<'a>(
-    fault: KeyFault,
-    section: Section,
-    name: &str,
-    tree: &'a Table,
-) -> Option<&'a str>
+fn first_at<'a>(fault: KeyFault, section: Section, name: &str, tree: &'a Table) -> Option<&'a str>
     ensures { option_copied result ≡ first_some (broken_in fault) (section_entries section name.now (table_view tree.now)) }
 {
     first_of(fault, section, tables_at(tree, name))
@@ -102,7 +97,11 @@ fn first_of_parts(fault: KeyFault, value: &Value) -> Option<&str>
     ensures { option_copied result ≡ broken_in_parts fault (view value.now) }
 {
     match value.as_table() {
-        Some(table) => first_of(fault, Section::Part(cut_of(table)), tables_at(table, "part")),
+        Some(table) => first_of(
+            fault,
+            Section::Part(cut_of(table)),
+            tables_at(table, "part"),
+        ),
         None => None,
     }
 }

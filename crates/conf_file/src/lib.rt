@@ -24,3 +24,6 @@ pub use entries::{
 pub use fault::{FileFault, TooMany};
 pub use reading::read_file;
 pub use texts::is_stored;
+
+#[cfg(test)]
+mod tests;

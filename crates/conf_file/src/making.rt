@@ -11,9 +11,7 @@ ghost use Rattle.conf_file.specs.Trees.{text_at as text_there, needed_text as te
 
 use crate::forms::{bound_of, is_batch_size};
 use crate::tree::{needed_text, table_at, tables_at, text_at, value_at, values_at};
-use crate::{
-    BoundEntry, ConfFile, FrontEntry, HostEntry, PartEntry, TableEntry, Texts, UserEntry,
-};
+use crate::{BoundEntry, ConfFile, FrontEntry, HostEntry, PartEntry, TableEntry, Texts, UserEntry};
 use list_types::{Listed, Text};
 use sql_values::Keys;
 use std::alloc::{AllocError, Global};

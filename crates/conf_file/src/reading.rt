@@ -1,6 +1,6 @@
 //! Reads a configuration file, rule by rule.
 
-ghost use Rattle.std.specs.Prelude.{◌≡◌, ◌≢◌, ◌≤◌, ◌<◌, ◌⊎◌, ◌^◌, length, Some, None, IfOk, IfErr, IsUtf8};
+ghost use Rattle.std.specs.Prelude.{◌≡◌, ◌↔◌, ◌≢◌, ◌≤◌, ◌<◌, ◌⊎◌, ◌^◌, length, Some, None, IfOk, IfErr, IsUtf8};
 ghost use Rattle.toml.specs.Parse.{parse_document};
 ghost use Rattle.toml.specs.View.{table_view};
 ghost use Rattle.conf_file.specs.Files.{Tells, keys_fault, entries_fault, IsRead, IsFirstFault};
@@ -69,6 +69,9 @@ fn check_entries(alloc: Global, file: &ConfFile) -> Result<(), FileFault>
 pub fn read_file(alloc: Global, bytes: &[u8]) -> Result<ConfFile, FileFault>
     ensures ok { IfOk result (IsRead bytes.now) }
     ensures err { IfErr result (IsFirstFault bytes.now) }
+
+    // No memory is taken before the size is known.
+    ensures large { (result ≡ Err FileFault.TooLarge) ↔ (2 ^ 20 < length bytes.now) }
 {
     if bytes.len() > MOST_BYTES {
         return Err(FileFault::TooLarge);

@@ -93,7 +93,11 @@ pub(crate) fn are_of(item: ItemType, values: &[Value]) -> bool
 fn if_tables(values: &[Value]) -> &[Value]
     ensures { map view result.now ≡ tables_or_none (map view values.now) }
 {
-    if are_of(ItemType::Table, values) { values } else { &[] }
+    if are_of(ItemType::Table, values) {
+        values
+    } else {
+        &[]
+    }
 }
 
 /// The tables of the array at a key, which has tables alone; else none.
