@@ -4,7 +4,7 @@ use Rattle.std.proofs.lemmas.List.{append_cancel_left}
 use Rattle.std.proofs.lemmas.Cmp.{nat_list_eq_equiv}
 use Rattle.std.proofs.Math.Seq.{drop-append_seam, take-append_seam}
 use Rattle.std.specs.Cmp.Lexicographic.{same_text}
-use Rattle.std.specs.Option.{MatchOption, option_copied}
+use Rattle.std.specs.Option.{MatchOption, option_copied, unwrap_or}
 use Rattle.conf_file.specs.Texts.{is_same, between}
 
 cut_there : (front back text m middle : List ℕ) → m ≡ middle → text ≡ front ++ (middle ++ back) → Some middle ≡ (if is_same text (front ++ (m ++ back)) then Some m else None)
@@ -33,3 +33,12 @@ pub stripped : (front back text rest : List ℕ) (r : Option (Bor (List ℕ))) �
     → option_copied r ≡ between front back text
 stripped front back text rest None is none = between_none front back text (λ middle e. none middle (append_cancel_left front rest (middle ++ back) (sym is ∙ e)))
 stripped front back text rest (Some x) is some = between_ends front x.now back text (is ∙ ap (λ t. front ++ t) some)
+
+found_between : (text other m middle : List ℕ) (b : Bool) → b ≡ is_same text other → (if b then Some m else None) ≡ Some middle → (text ≡ other) × (m ≡ middle)
+found_between text other m middle true same is = (same_text text other same, ap (λ o. unwrap_or o m) is)
+found_between text other m middle false same is = cc
+
+-- a text with both ends is these and what stands between them
+pub cut_text : (front back text middle : List ℕ) → between front back text ≡ Some middle → text ≡ front ++ (middle ++ back)
+cut_text front back text middle cut =
+    let (is, same) = found_between text _ _ middle _ refl cut in is ∙ ap (λ m. front ++ (m ++ back)) same

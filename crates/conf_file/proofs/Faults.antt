@@ -1,5 +1,5 @@
 -- Which fault comes first.
-use Rattle.std.proofs.Common.{◌≡◌, ℕ, List, [], ◌∷◌, Bool, true, false, Option, Some, None, not, ◌&&◌, codes, if◌then◌else◌, ◌⊎◌, inl, inr, refl, sym, ap, subst}
+use Rattle.std.proofs.Common.{◌↔◌, ◌≤◌, ◌<◌, ◌^◌, length, Result, Err, IfErr, arith, ◌≡◌, ℕ, List, [], ◌∷◌, Bool, true, false, Option, Some, None, not, ◌&&◌, codes, if◌then◌else◌, ◌⊎◌, inl, inr, refl, sym, ap, subst}
 use Rattle.std.specs.Option.{option_or, option_map, unwrap_or}
 use Rattle.toml.specs.Data.{Members}
 use Rattle.conf_file.specs.declared.entries.ConfFile.{ConfFile}
@@ -151,3 +151,7 @@ read_right bytes tree file is right same none =
     let (bad, more) = nothing_left _ _ none in
     let (repeated, many) = nothing_left _ _ more in
     (tree, is, (missing, unknown, wrong, (bad, nothing_there RepeatedName _ repeated, nothing_there TooMany _ many, same)))
+
+-- no file that isn't too large is told to be so
+pub large_told : (bytes : List ℕ) (r : Result ConfFile FileFault) → length bytes ≤ 2 ^ 20 → IfErr r (IsFirstFault bytes) → (r ≡ Err TooLarge) ↔ (2 ^ 20 < length bytes)
+large_told bytes r small told = (λ is. subst (λ t. IfErr t (IsFirstFault bytes)) is told, λ large. absurd (omega arith))

@@ -5,3 +5,6 @@ pub mod Trees
 pub mod Firsts
 pub mod Takings
 pub mod Faults
+pub mod Distinct
+pub mod Addresses
+pub mod Spelling

@@ -7,7 +7,7 @@ use Rattle.std.specs.List.{list_all}
 use Rattle.std.specs.Str.Parse.{digits_value, ParsesUnsigned}
 use Rattle.conf_file.specs.Texts.{number_within}
 
-digits : IsNumeralModel (λ ds. list_all is_ascii_digit ds ≡ true) (digits_value 10)
+pub digits : IsNumeralModel (λ ds. list_all is_ascii_digit ds ≡ true) (digits_value 10)
 digits = numerals_by_value _ (search rules)
 
 too_large : (low high : ℕ) (bs : List ℕ) → high < 2 ^ 32 → (0 < length bs × (digits_value 10 bs < 2 ^ 32) → ⊥) → None ≡ number_within low high bs

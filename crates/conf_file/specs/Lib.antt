@@ -9,3 +9,4 @@ pub mod Names
 pub mod Taken
 pub mod Counts
 pub mod Files
+pub mod Laws

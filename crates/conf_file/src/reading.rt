@@ -62,10 +62,23 @@ fn check_entries(alloc: Global, file: &ConfFile) -> Result<(), FileFault>
     }
 }
 
+/// Reads a file that isn't too large.
+#[tactic(auto, using(crate::proofs::Faults::keys_told, crate::proofs::Faults::entries_told, crate::proofs::Faults::read_right))]
+fn read_within(alloc: Global, bytes: &[u8]) -> Result<ConfFile, FileFault>
+    requires { length bytes.now ≤ 2 ^ 20 }
+    ensures ok { IfOk result (IsRead bytes.now) }
+    ensures err { IfErr result (IsFirstFault bytes.now) }
+{
+    let tree = read_tree(alloc, bytes)?;
+    check_keys(alloc, &tree)?;
+    let file = read_entries(alloc, &tree)?;
+    check_entries(alloc, &file)?;
+    Ok(file)
+}
+
 /// The entries of a configuration file, or the first rule that it breaks.
 ///
 /// The cost is linear in the bytes, but for a logarithm at each key and name.
-#[tactic(auto, using(crate::proofs::Faults::keys_told, crate::proofs::Faults::entries_told, crate::proofs::Faults::read_right))]
 pub fn read_file(alloc: Global, bytes: &[u8]) -> Result<ConfFile, FileFault>
     ensures ok { IfOk result (IsRead bytes.now) }
     ensures err { IfErr result (IsFirstFault bytes.now) }
@@ -76,9 +89,5 @@ pub fn read_file(alloc: Global, bytes: &[u8]) -> Result<ConfFile, FileFault>
     if bytes.len() > MOST_BYTES {
         return Err(FileFault::TooLarge);
     }
-    let tree = read_tree(alloc, bytes)?;
-    check_keys(alloc, &tree)?;
-    let file = read_entries(alloc, &tree)?;
-    check_entries(alloc, &file)?;
-    Ok(file)
+    read_within(alloc, bytes)
 }
