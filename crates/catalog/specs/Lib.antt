@@ -1,0 +1,3 @@
+pub mod Comment
+pub mod CommentText
+pub mod Searches
