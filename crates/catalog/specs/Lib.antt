@@ -1,3 +1,5 @@
+pub mod Columns
 pub mod Comment
 pub mod CommentText
 pub mod Searches
+pub mod StandIn

@@ -6,6 +6,7 @@ ghost use Rattle.catalog.specs.CommentText.{skipped};
 ghost use Rattle.catalog.specs.Searches.{each, name_of as name_meant};
 
 use crate::Status;
+use crate::columns::name_of;
 use crate::comment_text::{closed, opened, skip_blanks, word_run, words};
 use list_types::{Listed, Text};
 use sql_values::Name;
@@ -185,16 +186,6 @@ fn statuses_of(alloc: Global, words: &[Text]) -> Result<Option<Listed<Status>>, 
         }
     }
     Ok(Some(statuses))
-}
-
-fn name_of(alloc: Global, text: &Text) -> Result<Option<Name>, AllocError>
-    ensures { IfOk result (λ found. found ≡ name_meant text.now) }
-{
-    let copy = Text::from_str(alloc, text.as_str())?;
-    match Name::from_text(copy) {
-        Ok(name) => Ok(Some(name)),
-        Err(_text) => Ok(None),
-    }
 }
 
 fn names_of(alloc: Global, words: &[Text]) -> Result<Option<Listed<Name>>, AllocError>
