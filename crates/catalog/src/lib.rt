@@ -4,6 +4,7 @@
 mod columns;
 mod comment;
 mod comment_text;
+mod index;
 mod link;
 mod stand_in;
 
