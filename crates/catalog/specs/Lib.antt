@@ -3,5 +3,7 @@ pub mod Comment
 pub mod CommentText
 pub mod Index
 pub mod Links
+pub mod Rules
 pub mod Searches
 pub mod StandIn
+pub mod Tables

@@ -6,6 +6,10 @@ mod comment;
 mod comment_text;
 mod index;
 mod link;
+mod links;
+mod rules;
 mod stand_in;
+mod tables;
 
 pub use link::{Link, Links, Status};
+pub use tables::{Part, Table};
