@@ -1,3 +1,4 @@
+pub mod Broken
 pub mod Columns
 pub mod Comment
 pub mod CommentText

@@ -1,9 +1,11 @@
 //! The catalog: tables, their partitions, and the links on which each partition lies.
 #![tactic(auto)]
 
+mod checks;
 mod columns;
 mod comment;
 mod comment_text;
+mod fault;
 mod index;
 mod link;
 mod links;
@@ -11,5 +13,6 @@ mod rules;
 mod stand_in;
 mod tables;
 
+pub use fault::CatalogFault;
 pub use link::{Link, Links, Status};
 pub use tables::{Part, Table};
