@@ -6,5 +6,6 @@ pub mod Index
 pub mod Links
 pub mod Rules
 pub mod Searches
+pub mod Shared
 pub mod StandIn
 pub mod Tables

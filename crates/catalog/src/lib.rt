@@ -10,6 +10,7 @@ mod index;
 mod link;
 mod links;
 mod rules;
+mod shared;
 mod stand_in;
 mod tables;
 
