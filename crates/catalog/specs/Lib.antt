@@ -2,6 +2,7 @@ pub mod Broken
 pub mod Columns
 pub mod Comment
 pub mod CommentText
+pub mod Files
 pub mod Index
 pub mod Links
 pub mod Rules
@@ -9,3 +10,4 @@ pub mod Searches
 pub mod Shared
 pub mod StandIn
 pub mod Tables
+pub mod Views

@@ -15,14 +15,14 @@ pub(crate) struct Index {
 }
 
 impl Model for Index {
-    ghost use Rattle.std.specs.Prelude.{List, ℕ};
+    ghost use Rattle.std.specs.Prelude.{List, ℕ, ◌<◌, ◌^◌, length};
     ghost use Rattle.catalog.specs.Index.{IsIndex};
 
     ghost Value = { List (List ℕ) };
 
     ghost view = { λ s. s.names };
 
-    ghost invariant = { λ s. IsIndex s.names s.places };
+    ghost invariant = { λ s. IsIndex s.names s.places × (length s.names < 2 ^ 32) };
 }
 
 impl Index {
@@ -47,6 +47,13 @@ impl Index {
         ensures { result ≡ place_in self.now name.now }
     {
         self.places.get(name).copied()
+    }
+
+    /// The same names.
+    pub(crate) fn copy(&self, alloc: Global) -> Result<Index, AllocError>
+        ensures { IfOk result (λ copy. copy ≡ self.now) }
+    {
+        Index::new(alloc, self.names.clone()?)
     }
 
     /// How many names there are.
