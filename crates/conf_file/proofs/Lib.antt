@@ -1,0 +1,10 @@
+pub mod Numbers
+pub mod Cuts
+pub mod Ports
+pub mod Trees
+pub mod Firsts
+pub mod Takings
+pub mod Faults
+pub mod Distinct
+pub mod Addresses
+pub mod Spelling

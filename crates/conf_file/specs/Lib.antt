@@ -1,0 +1,12 @@
+pub mod Columns
+pub mod Texts
+pub mod Trees
+pub mod Sections
+pub mod Shown
+pub mod Keys
+pub mod Entries
+pub mod Names
+pub mod Taken
+pub mod Counts
+pub mod Files
+pub mod Laws
