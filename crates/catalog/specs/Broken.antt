@@ -11,13 +11,12 @@ use Rattle.catalog.specs.declared.comment.Comment.{Comment}
 use Rattle.catalog.specs.declared.fault.CatalogFault.{CatalogFault}
 use Rattle.catalog.specs.declared.fault.CatalogFault.TheVariants.{BadName, BadColumn, BadKey, BadComment, UnknownServer, BadLinks, BadBounds, BadPartition, NoMemory}
 use Rattle.catalog.specs.declared.link.Link.{Link}
-use Rattle.catalog.specs.Columns.{key_of}
+use Rattle.catalog.specs.Columns.{column_text, key_of}
 use Rattle.catalog.specs.Comment.{comment_at, nothing}
 use Rattle.catalog.specs.Index.{place_in}
 use Rattle.catalog.specs.Links.{links_of, overlaid}
 use Rattle.catalog.specs.Rules.{cut_of, bounds_break, is_bad_cut}
 use Rattle.catalog.specs.Searches.{first}
-use Rattle.catalog.specs.StandIn.{column_of}
 use Rattle.catalog.specs.Tables.{said, remote_name}
 
 -- what is told; want of memory may be told in its place
@@ -36,7 +35,7 @@ unfoldable pub bad_name : TableEntry → Option CatalogFault
 bad_name table = option_or (unnamed table.name) (first bad_part_name table.parts)
 
 abbrev pub bad_text : List ℕ → Option CatalogFault
-bad_text text = if is_some (column_of text) then None else Some (BadColumn text)
+bad_text text = if is_some (column_text text) then None else Some (BadColumn text)
 
 -- a column's text has another form
 unfoldable pub bad_column : TableEntry → Option CatalogFault

@@ -8,11 +8,15 @@ use Rattle.sql_values.specs.declared.table.TableDef.{TableDef}
 use Rattle.sql_values.specs.declared.table.Kind.{Kind}
 use Rattle.sql_values.specs.declared.table.Kind.TheVariants.{BigInt, VarChar}
 use Rattle.conf_file.specs.declared.entries.TableEntry.{TableEntry}
-use Rattle.catalog.specs.StandIn.{column_of}
+use Rattle.conf_file.specs.Columns.{column_of}
 use Rattle.catalog.specs.Searches.{each, name_of}
 
+-- the column that a text writes
+unfoldable pub column_text : List ℕ → Option ColumnDef
+column_text text = column_of text
+
 abbrev pub columns_of : TableEntry → Option (List ColumnDef)
-columns_of table = each column_of table.columns
+columns_of table = each column_text table.columns
 
 abbrev pub is_named : List ℕ → ColumnDef → Bool
 is_named name column = pointwise nat_eq column.name name

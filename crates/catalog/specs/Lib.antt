@@ -2,12 +2,12 @@ pub mod Broken
 pub mod Columns
 pub mod Comment
 pub mod CommentText
+pub mod Conf
 pub mod Files
 pub mod Index
 pub mod Links
 pub mod Rules
 pub mod Searches
 pub mod Shared
-pub mod StandIn
 pub mod Tables
 pub mod Views

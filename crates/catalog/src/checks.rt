@@ -5,11 +5,10 @@ ghost use Rattle.catalog.specs.Broken.{Refuses, unnamed, bad_part_name, bad_name
 ghost use Rattle.catalog.specs.Searches.{first};
 
 use crate::CatalogFault;
-use crate::columns::key_of;
+use crate::columns::{column_text, key_of};
 use crate::comment::{Comment, CommentFault, read_comment};
 use crate::index::Index;
 use crate::rules::{bounds_break, is_bad_cut};
-use crate::stand_in::read_column;
 use crate::tables::{comment_of, own_links, part_links};
 use conf_file::{PartEntry, TableEntry};
 use list_types::Text;
@@ -81,7 +80,7 @@ fn check_names(alloc: Global, table: &TableEntry) -> Result<(), CatalogFault>
 fn check_column(alloc: Global, text: &Text) -> Result<(), CatalogFault>
     ensures { Refuses (bad_text text.now) result }
 {
-    match read_column(alloc, text.as_str())? {
+    match column_text(alloc, text)? {
         Some(_column) => Ok(()),
         None => Err(CatalogFault::BadColumn(Text::from_str(alloc, text.as_str())?)),
     }

@@ -2,11 +2,10 @@
 ghost use Rattle.std.specs.Prelude.{◌≡◌, ◌+◌, IfOk, Option};
 ghost use Rattle.std.specs.List.{list_any};
 ghost use Rattle.std.specs.Option.{option_map};
-ghost use Rattle.catalog.specs.Columns.{columns_of as columns_read, is_named as named, is_big_int as big_int, key_from as key_found, key_place as key_at, keyed as with_key, def_of as defined_by, key_of as key_read};
+ghost use Rattle.catalog.specs.Columns.{column_text as column_written, columns_of as columns_read, is_named as named, is_big_int as big_int, key_from as key_found, key_place as key_at, keyed as with_key, def_of as defined_by, key_of as key_read};
 ghost use Rattle.catalog.specs.Searches.{name_of as name_meant};
 
-use crate::stand_in::read_column;
-use conf_file::TableEntry;
+use conf_file::{TableEntry, read_column};
 use list_types::{Listed, Text};
 use sql_values::{ColumnDef, ColumnDefs, Kind, Name, TableDef};
 use std::alloc::{AllocError, Global};
@@ -22,13 +21,21 @@ pub(crate) fn name_of(alloc: Global, text: &Text) -> Result<Option<Name>, AllocE
     }
 }
 
+/// The column that a text writes.
+#[tactic(auto, unfolding(crate::specs::Columns::column_text))]
+pub(crate) fn column_text(alloc: Global, text: &Text) -> Result<Option<ColumnDef>, AllocError>
+    ensures { IfOk result (λ found. found ≡ column_written text.now) }
+{
+    read_column(alloc, text.as_str())
+}
+
 /// The columns of an entry, where each has its form.
 pub(crate) fn columns_of(alloc: Global, table: &TableEntry) -> Result<Option<ColumnDefs>, AllocError>
     ensures { IfOk result (λ found. found ≡ columns_read table.now) }
 {
     let mut columns = Listed::new(alloc);
     for text in table.columns.as_slice() {
-        match read_column(alloc, text.as_str())? {
+        match column_text(alloc, text)? {
             Some(column) => columns.push(column)?,
             None => return Ok(None),
         }
