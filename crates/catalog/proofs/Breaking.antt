@@ -27,8 +27,15 @@ unfolding broken
 broken_by_link file tables h entries =
     ap (λ (o : Option CatalogFault). option_or o (option_and_then (shared_remote file.servers) (catalog_entries file))) h ∙ ap (option_and_then (shared_remote file.servers)) entries
 
-pub entries_there : (file : ConfFile) → broken_table file ≡ None → IsThere (catalog_entries file)
+entries_there : (file : ConfFile) → broken_table file ≡ None → IsThere (catalog_entries file)
 entries_there file h = tables_there (server_names file) file.tables h
+
+not_missing : (entries : Option (List Table)) → IsThere entries → entries ≡ None → ⊥
+not_missing None there h = let e : None ≡ Some there.at = there.is in cc
+not_missing (Some tables) there h = cc
+
+pub never_missing : (file : ConfFile) → broken_table file ≡ None → catalog_entries file ≡ None → ⊥
+never_missing file h missing = not_missing (catalog_entries file) (entries_there file h) missing
 
 pub entries_sound : (file : ConfFile) (tables : List Table) → catalog_entries file ≡ Some tables → AreTables (length file.servers) tables
 entries_sound file tables h = subst (λ (n : ℕ). AreTables n tables) (length-map file.servers host_name) (tables_sound (server_names file) file.tables tables h)

@@ -1,5 +1,6 @@
-ghost use Rattle.std.specs.Prelude.{◌≡◌, IfOk, IfErr};
-ghost use Rattle.catalog.specs.Conf.{IsCatalog, IsConfFault};
+ghost use Rattle.std.specs.Prelude.{List, ℕ, IfOk, IfErr};
+ghost use Rattle.conf_file.specs.Files.{IsFirstFault};
+ghost use Rattle.catalog.specs.Conf.{IsCatalog, IsEntriesFault, IsConfFault};
 
 use crate::{Catalog, CatalogFault, catalog_of};
 use conf_file::{FileFault, read_file};
@@ -19,7 +20,7 @@ pub enum ConfFault {
 }
 
 fn of_file(fault: FileFault) -> ConfFault
-    ensures { result ≡ conf_fault fault }
+    ensures { (bytes : List ℕ) → IsFirstFault bytes fault → IsConfFault bytes result }
 {
     match fault {
         FileFault::NoMemory => ConfFault::NoMemory,
@@ -28,7 +29,7 @@ fn of_file(fault: FileFault) -> ConfFault
 }
 
 fn of_entries(fault: CatalogFault) -> ConfFault
-    ensures { result ≡ conf_fault_of fault }
+    ensures { (bytes : List ℕ) → IsEntriesFault bytes fault → IsConfFault bytes result }
 {
     match fault {
         CatalogFault::NoMemory => ConfFault::NoMemory,

@@ -53,7 +53,7 @@ same_names name n c d first second =
     let d_named : pointwise nat_eq d.name name.column ≡ true = (and_parts (may_qualify name.table n) (pointwise nat_eq d.name name.column) second).1 in
     (bytes_decides c.name name.column).0 c_named ∙ sym ((bytes_decides d.name name.column).0 d_named)
 
-key_value : (table : TableDef) (row : List Value) (key : ℤ) (name : ColumnName) → HasOwnKeyName table → slice_get row table.key ≡ Some (value.Number key) → names_key table name ≡ true → column_value (table ∷ []) row name ≡ Some (value.Number key)
+pub key_value : (table : TableDef) (row : List Value) (key : ℤ) (name : ColumnName) → HasOwnKeyName table → slice_get row table.key ≡ Some (value.Number key) → names_key table name ≡ true → column_value (table ∷ []) row name ≡ Some (value.Number key)
 unfolding column_value
 key_value table row key name own at named =
     let found = with_column table name (slice_get table.columns table.key) refl named in
