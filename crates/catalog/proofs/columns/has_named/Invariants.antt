@@ -1,0 +1,7 @@
+use Rattle.std.proofs.Common.{◌≡◌, drop}
+use Rattle.std.specs.List.{list_any}
+use Rattle.catalog.specs.Columns.{is_named}
+use Rattle.catalog.proofs.columns.has_named.Given as goal
+
+abbrev pub invariant-loop-column : goal.invariant-loop-column
+invariant-loop-column l = list_any (is_named l.name) (drop l.column-index l.columns) ≡ list_any (is_named l.name) l.columns

@@ -1,0 +1,13 @@
+pub mod Broken
+pub mod Columns
+pub mod Comment
+pub mod CommentText
+pub mod Conf
+pub mod Files
+pub mod Index
+pub mod Links
+pub mod Rules
+pub mod Searches
+pub mod Shared
+pub mod Tables
+pub mod Views
