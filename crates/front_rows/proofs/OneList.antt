@@ -1,11 +1,10 @@
 -- A list is known by its order, and by what ties with each element in turn.
-use Rattle.std.proofs.Common.{◌≡◌, ℕ, suc, zero, ◌+◌, ◌<◌, ◌≤◌, Bool, true, false, not, ◌&&◌, cond, List, [], ◌∷◌, filter, length, get_or, count_by, refl, sym, ◌∙◌, ap, subst, arith, inl, inr, add-one}
+use Rattle.std.proofs.Common.{◌≡◌, suc, Bool, true, false, cond, List, [], ◌∷◌, filter, refl, sym, subst, arith, inl, inr, add-one}
 use Rattle.std.specs.Cmp.{IsStrictWeakOrder}
 use Rattle.std.specs.List.{Contains}
-use Rattle.std.specs.List.Sorted.{IsPermutation, IsSortedBy, IsStableBy, ties}
-use Rattle.std.proofs.lemmas.Bool.{cases_Bool, both_ways, and_parts}
-use Rattle.std.proofs.lemmas.List.Sorted.{sorted_far, Contains-permutation, sum_by-IsPermutation}
-use Rattle.std.proofs.lemmas.List.Sums.{length-filter}
+use Rattle.std.specs.List.Sorted.{IsSortedBy, ties}
+use Rattle.std.proofs.lemmas.Bool.{cases_Bool, both_ways}
+use Rattle.std.proofs.lemmas.List.Sorted.{sorted_far}
 
 pub sorted_tail : {X : Type 0} (lt : X → X → Bool) (x : X) (xs : List X) → IsSortedBy lt (x ∷ xs) → IsSortedBy lt xs
 sorted_tail lt x xs up = λ k d low within. rw (add-one k) (rw (add-one (suc k)) at (up (suc k) d (omega arith) (omega arith)))
@@ -55,5 +54,5 @@ one_list lt o (x ∷ xs) (y ∷ ys) up rise alike =
     let heads : x ∷ filter (ties lt x) xs ≡ y ∷ filter (ties lt x) ys = rw tied at from_x in
     let same : x ≡ y = cc in
     let rest : xs ≡ ys = one_list lt o xs ys (sorted_tail lt x xs up) (sorted_tail lt y ys rise)
-      (λ z. same_tail (ties lt z x) x _ _ (subst (λ w. filter (ties lt z) (x ∷ xs) ≡ filter (ties lt z) (w ∷ ys)) (sym same) (alike z))) in
+    (λ z. same_tail (ties lt z x) x _ _ (subst (λ w. filter (ties lt z) (x ∷ xs) ≡ filter (ties lt z) (w ∷ ys)) (sym same) (alike z))) in
     cc

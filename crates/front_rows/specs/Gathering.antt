@@ -1,5 +1,5 @@
 -- The rows of answers.
-use Rattle.std.specs.Prelude.{List, [], ◌++◌}
+use Rattle.std.specs.Prelude.{List, []}
 use Rattle.std.specs.List.{flat_map}
 use Rattle.sql_values.specs.declared.value.Value.{Value}
 use Rattle.sql_text.specs.declared.link.LinkAnswer.{LinkAnswer}

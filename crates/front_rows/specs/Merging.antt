@@ -1,5 +1,5 @@
 -- The rows of several parts in one order.
-use Rattle.std.specs.Prelude.{◌≡◌, ℕ, ◌*◌, Bool, true, false, ◌||◌, List, Option, Some, None, length, nat_lt, sum_by, take, drop}
+use Rattle.std.specs.Prelude.{◌≡◌, ℕ, ◌*◌, Bool, true, ◌||◌, List, Option, Some, None, length, nat_lt, sum_by, take, drop}
 use Rattle.std.specs.List.Sorted.{IsPermutation, IsSortedBy, IsStableBy}
 use Rattle.sql_values.specs.declared.value.Value.{Value}
 use Rattle.sql_values.specs.Storing.{row_size}

@@ -10,13 +10,19 @@ use sql_text::LinkAnswer;
 use sql_values::{Row, size};
 use std::alloc::{AllocError, Global};
 
+/// Adds the rows of an answer. Those of the first part stay where they are.
 fn add_rows(rows: &mut Vec<Row>, answer: LinkAnswer) -> Result<(), AllocError>
     ensures { OnOk result (rows.new.items ≡ rows.old.items ++ answer_rows answer) }
 {
-    if let LinkAnswer::Rows(list) = answer {
-        let mut more = list.into_vec();
-        rows.append(&mut more)?;
+    let LinkAnswer::Rows(list) = answer else {
+        return Ok(());
+    };
+    let mut more = list.into_vec();
+    if rows.is_empty() {
+        *rows = more;
+        return Ok(());
     }
+    rows.append(&mut more)?;
     Ok(())
 }
 

@@ -14,3 +14,5 @@ mod order;
 pub use merges::{MOST_BYTES, MOST_ROWS, RowsFault, merge_rows};
 pub use order::{Answers, Order, Sort};
 
+#[cfg(test)]
+mod tests;

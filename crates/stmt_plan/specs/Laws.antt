@@ -1,8 +1,9 @@
 -- What plans are for.
-use Rattle.std.specs.Prelude.{◌≡◌, ℕ, ℤ, true, List, [], ◌∷◌, Some, None, FitsSigned, slice_get}
+use Rattle.std.specs.Prelude.{◌≡◌, ℕ, ℤ, true, List, [], ◌∷◌, Some, None, FitsSigned, count_by, slice_get}
 use Rattle.std.specs.Int.{w64}
 use Rattle.std.specs.List.{Contains}
 use Rattle.std.specs.Option.{option_map_or}
+use Rattle.sql_values.specs.declared.table.ColumnDef.{ColumnDef}
 use Rattle.sql_values.specs.declared.table.TableDef.{TableDef}
 use Rattle.sql_values.specs.declared.tree.Cond.{Cond}
 use Rattle.sql_values.specs.declared.value.Value.{Value}
@@ -16,7 +17,7 @@ use Rattle.sql_text.specs.declared.statement.Statement.{Statement}
 use Rattle.sql_text.specs.declared.statement.Statement.TheVariants as statement
 use Rattle.sql_text.specs.declared.statement.Tab.{Tab}
 use Rattle.stmt_plan.specs.declared.planned.Plan.{Plan}
-use Rattle.stmt_plan.specs.Inserts.{rows_of, row_key}
+use Rattle.stmt_plan.specs.Inserts.{is_named, targets, unknown_target, has_each_once, rows_of, row_key}
 use Rattle.stmt_plan.specs.Plans.{IsTable, IsPlan}
 use Rattle.stmt_plan.specs.Selects.{known_as, unqualified}
 
@@ -37,3 +38,9 @@ abbrev pub InsertsAreCovered : Type 0
 InsertsAreCovered = (number : ℕ) (table : TableDef) (rule : Rule) (insert : Insert) (plan : Plan) (row : List Value) (p : ℕ) →
     IsPlan number table rule (statement.Insert insert) plan →
     Contains (rows_of table insert.columns insert.rows) row → part rule (row_key table.key row) ≡ Some p → Contains plan.parts p
+
+-- a list that is taken for one with each column once has each exactly once
+abbrev pub ListsHaveEachOnce : Type 0
+ListsHaveEachOnce = (table : TableDef) (names : List (List ℕ)) (column : ColumnDef) → IsTable table →
+    unknown_target table.columns (Some names) ≡ None → has_each_once table.columns (targets table.columns (Some names)) ≡ true →
+    Contains table.columns column → count_by (λ name. is_named name column) names ≡ 1

@@ -1,11 +1,12 @@
 //! The plan of a statement.
 
-ghost use Rattle.std.specs.Prelude.{◌≡◌, ◌⊎◌, None, Some, IfOk, IfErr, OnOk};
+ghost use Rattle.std.specs.Prelude.{◌≡◌, ◌⊎◌, map, None, Some, IfOk, IfErr, OnOk};
 ghost use Rattle.sql_values.specs.KeySets.{AreKeys};
 ghost use Rattle.part_rules.specs.Placing.{IsRule};
+ghost use Rattle.stmt_plan.specs.Chosen.{stored_fault};
 ghost use Rattle.stmt_plan.specs.Finished.{IsFinished};
-ghost use Rattle.stmt_plan.specs.Inserts.{rows_of};
-ghost use Rattle.stmt_plan.specs.Plans.{IsTable, IsPlan, IsPushed, keeps_key};
+ghost use Rattle.stmt_plan.specs.Inserts.{rows_of, row_key, unplaced};
+ghost use Rattle.stmt_plan.specs.Plans.{IsTable, AsksForKeys, IsPlan, IsPushed, keeps_key};
 ghost use Rattle.stmt_plan.specs.Refusals.{refusal};
 
 use crate::choosing::choose;
@@ -14,8 +15,37 @@ use crate::key_conditions::{key_condition, keys_of_rows, place_keys};
 use crate::{Plan, StmtFault, Work};
 use part_rules::{Rule, keys_of, prune};
 use sql_text::{Insert, ScanItems, Statement};
-use sql_values::{Cond, Intervals, LockMode, Rows, TableDef, TableNo};
+use sql_values::{Cond, Intervals, LockMode, Row, Rows, TableDef, TableNo};
 use std::alloc::{AllocError, Global};
+
+/// The rows that an INSERT stores, or why it stores none.
+fn stored(alloc: Global, table: &TableDef, insert: &Insert) -> Result<Rows, StmtFault>
+    ensures rows { IfOk result (λ rows. rows ≡ rows_of table.now insert.now.columns insert.now.rows) }
+    ensures ok { OnOk result (stored_fault table.now insert.now ≡ None) }
+    ensures err { IfErr result (λ fault. (fault ≡ StmtFault.NoMemory) ⊎ (stored_fault table.now insert.now ≡ Some fault)) }
+{
+    let columns = table.columns.as_slice();
+    let rows = insert.rows.as_slice();
+    let among = targets(alloc, columns, &insert.columns)?;
+    let slots = slots(alloc, columns, &among)?;
+    count_rows(columns.len(), rows)?;
+    check_rows(alloc, &among, rows)?;
+    let kept = stored_rows(alloc, &slots, rows)?;
+    Ok(kept)
+}
+
+/// The condition that asks for the keys of these rows, or which of them no partition takes.
+fn placed(alloc: Global, table: &TableDef, rule: &Rule, rows: &[Row]) -> Result<Cond, StmtFault>
+    requires rule { IsRule rule.now }
+    requires table { IsTable table.now }
+    ensures cond { IfOk result (λ cond. AsksForKeys table.now (map (row_key table.now.key) rows.now) (Some cond)) }
+    ensures ok { OnOk result (unplaced rule.now (map (row_key table.now.key) rows.now) ≡ None) }
+    ensures err { IfErr result (λ fault. (fault ≡ StmtFault.NoMemory) ⊎ (unplaced rule.now (map (row_key table.now.key) rows.now) ≡ Some fault)) }
+{
+    let keys = keys_of_rows(alloc, rows, table.key)?;
+    place_keys(rule, &keys)?;
+    Ok(key_condition(alloc, table, keys)?)
+}
 
 /// The rows of an INSERT, and the condition that asks for their keys, or why it is refused.
 fn insert(
@@ -31,17 +61,9 @@ fn insert(
     ensures ok { OnOk result (refusal table.now rule.now (Statement.Insert insert.now) ≡ None) }
     ensures err { IfErr result (λ fault. (fault ≡ StmtFault.NoMemory) ⊎ (refusal table.now rule.now (Statement.Insert insert.now) ≡ Some fault)) }
 {
-    let columns = table.columns.as_slice();
-    let rows = insert.rows.as_slice();
-    let among = targets(alloc, columns, &insert.columns)?;
-    let slots = slots(alloc, columns, &among)?;
-    count_rows(columns.len(), rows)?;
-    check_rows(alloc, &among, rows)?;
-    let stored = stored_rows(alloc, &slots, rows)?;
-    let keys = keys_of_rows(alloc, stored.as_slice(), table.key)?;
-    place_keys(rule, &keys)?;
-    let cond = key_condition(alloc, table, keys)?;
-    Ok((cond, stored))
+    let rows = stored(alloc, table, insert)?;
+    let cond = placed(alloc, table, rule, rows.as_slice())?;
+    Ok((cond, rows))
 }
 
 /// The keys of rows for which the condition may hold.
