@@ -21,7 +21,7 @@ mod statement;
 mod token;
 
 pub use fault::ParseFault;
-pub use link::{Cell, LinkAnswer, LinkRequest, Scan, ScanItems};
+pub use link::{AggregateCall, AggregateCalls, Cell, LinkAnswer, LinkRequest, Scan, ScanItems};
 pub use parsing::{MOST_OPENINGS, parse};
 pub use printing::{print, push_quoted};
 pub use statement::{Insert, Item, ItemList, Names, Select, SelectItems, Statement, Tab, Tuples};
