@@ -8,3 +8,7 @@ pub mod Statements
 pub mod Bytes
 pub mod Parses
 pub mod Joined
+pub mod Written
+pub mod Lexemes
+pub mod Sound
+pub mod Respelled

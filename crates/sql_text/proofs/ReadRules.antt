@@ -104,7 +104,7 @@ head_covers tokens.Bad x h = absurd cc
 head_field : (depth : ℕ) → IsField (λ _. one head_of) depth (one_at head_of) false (100 ∷ []) []
 head_field depth = one_field head_of (100 ∷ []) depth (record { cover = head_covers; token = tokens.Quoted (97 ∷ []); example = (false, 97 ∷ []); known = refl })
 
-abbrev literal_kinds : List ℕ
+abbrev pub literal_kinds : List ℕ
 literal_kinds = 101 ∷ 102 ∷ 103 ∷ 8 ∷ []
 
 literal_tells_fixed : (f : Fixed) → is_some (literal_of (tokens.Fixed f)) ≡ member (number_of f) literal_kinds
@@ -360,7 +360,7 @@ literal_list_field depth = parenthesized_field (series Comma literal) depth (ser
 
 -- ---- tests
 
-abbrev operand_kinds : List ℕ
+abbrev pub operand_kinds : List ℕ
 operand_kinds = 100 ∷ literal_kinds
 
 operand_field : (depth : ℕ) → IsField (λ _. operand) depth operand_at false operand_kinds (16 ∷ [])
@@ -509,22 +509,22 @@ unfolding neg
 some_neg zero = some_compared zero
 some_neg (suc n) = let s = some_compared (suc n) in record { value = s.value; text = s.text; spells = inr (inr s.spells) }
 
-abbrev neg_kinds : List ℕ
+abbrev pub neg_kinds : List ℕ
 neg_kinds = 7 ∷ 13 ∷ operand_kinds
 
-conj_field : (depth : ℕ) → IsField neg depth (neg_at depth) false neg_kinds (16 ∷ []) → IsField (λ n. conj_over (neg n)) depth (conj_by (neg_at depth)) false neg_kinds (0 ∷ 16 ∷ [])
+pub conj_field : (depth : ℕ) → IsField neg depth (neg_at depth) false neg_kinds (16 ∷ []) → IsField (λ n. conj_over (neg n)) depth (conj_by (neg_at depth)) false neg_kinds (0 ∷ 16 ∷ [])
 conj_field depth field = known_as neg_kinds (0 ∷ 16 ∷ []) refl refl
     (both (series_field And neg (neg_at depth) depth neg_kinds (16 ∷ []) field refl) (λ parts. is_field (joined conds.All parts) depth) refl)
 
-cond_over_field : (depth : ℕ) → IsField neg depth (neg_at depth) false neg_kinds (16 ∷ []) → IsField (λ n. cond_over (neg n)) depth (cond_by (neg_at depth)) false neg_kinds (9 ∷ 0 ∷ 16 ∷ [])
+pub cond_over_field : (depth : ℕ) → IsField neg depth (neg_at depth) false neg_kinds (16 ∷ []) → IsField (λ n. cond_over (neg n)) depth (cond_by (neg_at depth)) false neg_kinds (9 ∷ 0 ∷ 16 ∷ [])
 cond_over_field depth field = known_as neg_kinds (9 ∷ 0 ∷ 16 ∷ []) refl refl
     (both (series_field Or (λ n. conj_over (neg n)) (conj_by (neg_at depth)) depth neg_kinds (0 ∷ 16 ∷ []) (conj_field depth field) refl) (λ parts. is_field (joined conds.Any parts) depth) refl)
 
 -- what stands behind NOT and behind an opening parenthesis
-abbrev negated : Rules Cond
+abbrev pub negated : Rules Cond
 negated n = neg n ▷ λ part. is (conds.Not part)
 
-abbrev enclosed : Rules Cond
+abbrev pub enclosed : Rules Cond
 enclosed n = cond_over (neg n) ▷ λ part. Close ⊳ is part
 
 abbrev negated_at : ℕ → Reads Cond
@@ -558,17 +558,17 @@ some_enclosed : (n : ℕ) → Some_text (enclosed n)
 some_enclosed n = let s = some_cond n in record { value = s.value; text = s.text ++ (tokens.Fixed Close ∷ []); spells = (s.value, record { front = s.text; rest = tokens.Fixed Close ∷ []; whole = refl; first = s.spells; second = ([], refl, (refl, refl)) }) }
 
 -- the rule, without its cases
-abbrev any_neg : Rules Cond
+abbrev pub any_neg : Rules Cond
 any_neg n = opens Not negated n ∣ opens Open enclosed n ∣ comparison n
 
-to_neg : (n : ℕ) (c : Cond) (ts : List Token) → any_neg n c ts → neg n c ts
+pub to_neg : (n : ℕ) (c : Cond) (ts : List Token) → any_neg n c ts → neg n c ts
 unfolding neg
 to_neg zero c ts (inl h) = absurd h
 to_neg zero c ts (inr (inl h)) = absurd h
 to_neg zero c ts (inr (inr h)) = h
 to_neg (suc n) c ts h = h
 
-from_neg : (n : ℕ) (c : Cond) (ts : List Token) → neg n c ts → any_neg n c ts
+pub from_neg : (n : ℕ) (c : Cond) (ts : List Token) → neg n c ts → any_neg n c ts
 unfolding neg
 from_neg zero c ts h = inr (inr h)
 from_neg (suc n) c ts h = h
@@ -606,7 +606,7 @@ suc_neg depth ts =
     opened_is Not depth (negated_at depth) ts (cond (begins Open ts) (open_at Open (suc depth) ts >>= closed_by (neg_at depth)) (comparison_at (suc depth) ts))
     ∙ ap (cond (begins Not ts) (negated_at depth (behind ts))) (opened_is Open depth (closed_by (neg_at depth)) ts (comparison_at (suc depth) ts))
 
-neg_field : (depth : ℕ) → IsField neg depth (neg_at depth) false neg_kinds (16 ∷ [])
+pub neg_field : (depth : ℕ) → IsField neg depth (neg_at depth) false neg_kinds (16 ∷ [])
 neg_field zero =
     same_reader neg zero (λ ts. cond (begins Not ts) (open_at Not zero ts >>= negated_at zero) (cond (begins Open ts) (open_at Open zero ts >>= closed_by (neg_at zero)) (comparison_at zero ts))) (neg_at zero) false neg_kinds (16 ∷ [])
     (any_field zero (λ ts. open_at Not zero ts >>= negated_at zero) (λ ts. open_at Open zero ts >>= closed_by (neg_at zero))

@@ -12,6 +12,7 @@
 
 mod cursor;
 mod fault;
+mod laws;
 mod lexer;
 mod link;
 mod parsing;

@@ -90,8 +90,5 @@ pub enum LinkAnswer {
     /// The prepared branches.
     Xids(Xids),
     /// Refused, with the error's number and text. Nothing changed.
-    Refused {
-        number: u16,
-        message: Text,
-    },
+    Refused { number: u16, message: Text },
 }
