@@ -67,15 +67,6 @@ ascii_utf8_one b h = IsUtf8-from_ascii (b ∷ []) (IsAscii-cons b [] h IsAscii-n
 enclosed_utf8 : (a b : ℕ) (bytes : List ℕ) → a < 128 → b < 128 → IsUtf8 bytes → IsUtf8 (a ∷ (bytes ++ (b ∷ [])))
 enclosed_utf8 a b bytes p q h = IsUtf8-append (a ∷ []) (bytes ++ (b ∷ [])) (ascii_utf8_one a p) (IsUtf8-append bytes (b ∷ []) h (ascii_utf8_one b q))
 
-pub name_atom : (n : List ℕ) → is_name n ≡ true → Atom (name_text n) (tokens.Quoted n ∷ [])
-name_atom n h = record {
-  reads = λ rest more stops again.
-      let e : lexeme_at (96 ∷ ((n ++ (96 ∷ [])) ++ rest)) ≡ (Some (tokens.Quoted n), rest) = ap (λ (l : List ℕ). lexeme_at (96 ∷ l)) (append_assoc n (96 ∷ []) rest) ∙ quoted_name_at n rest h in
-      let l : length rest ≤ length ((n ++ (96 ∷ [])) ++ rest) = subst (λ (s : List ℕ). length rest ≤ length s) (sym (append_assoc n (96 ∷ []) rest)) (length_behind n rest 96) in
-      has_symbol false 96 ((n ++ (96 ∷ [])) ++ rest) (tokens.Quoted n) rest more refl e refl l (again false);
-  utf8 = enclosed_utf8 96 96 n (omega arith) (omega arith) (name_utf8 n h);
-}
-
 -- TEXTS
 
 -- what is read of a byte as it is written
@@ -106,16 +97,6 @@ text_read (b ∷ t) rest h =
     ap (text_from 39 Plain) (append_assoc (escaped b) (flat_map escaped t) (39 ∷ rest))
     ∙ escaped_is b (flat_map escaped t ++ (39 ∷ rest))
     ∙ ap (onto b) (text_read t rest h)
-
-pub text_atom : (t : List ℕ) → IsUtf8 t → IsUtf8 (flat_map escaped t) → Atom (quoted t) (tokens.Text t ∷ [])
-text_atom t u v = record {
-  reads = λ rest more stops again.
-      let e : lexeme_at (39 ∷ ((flat_map escaped t ++ (39 ∷ [])) ++ rest)) ≡ (Some (tokens.Text t), rest) =
-      ap (λ (l : List ℕ). lexeme_at (39 ∷ l)) (append_assoc (flat_map escaped t) (39 ∷ []) rest) ∙ (rw (text_read t rest stops, utf8_lossy-IsUtf8 t u) refl) in
-      let l : length rest ≤ length ((flat_map escaped t ++ (39 ∷ [])) ++ rest) = subst (λ (s : List ℕ). length rest ≤ length s) (sym (append_assoc (flat_map escaped t) (39 ∷ []) rest)) (length_behind (flat_map escaped t) rest 39) in
-      has_symbol false 39 ((flat_map escaped t ++ (39 ∷ [])) ++ rest) (tokens.Text t) rest more refl e refl l (again false);
-  utf8 = enclosed_utf8 39 39 (flat_map escaped t) (omega arith) (omega arith) v;
-}
 
 -- NUMBERS
 
@@ -198,17 +179,6 @@ digits_lexeme n d ds rest h v small stops =
     ap (λ (x : List ℕ × List ℕ). (digits_token (value_after 0 x.0), x.1)) r ∙ ap (λ (t : Token). (t, rest)) token in
     digit_lexeme d (ds ++ rest) (tokens.Digits (pos n)) rest q.0 q.1 q.2 p.0 read
 
-pub digits_atom : (n : ℕ) → n < 2 ^ 127 → Atom (signed_decimal (pos n)) (tokens.Digits (pos n) ∷ [])
-digits_atom n small =
-    let k = numeral n (omega arith) in
-    record {
-      reads = λ rest more stops again.
-          let e = digits_lexeme n k.first k.others rest k.digits k.value small stops in
-          subst (λ (l : List ℕ). Has false (l ++ rest) (tokens.Digits (pos n) ∷ more)) (sym k.is)
-          (has_token false k.first (k.others ++ rest) (tokens.Digits (pos n)) rest more refl e refl (length_later k.others rest) (again (continues_name k.first)));
-      utf8 = k.utf8;
-    }
-
 minus_lexeme : (n : ℕ) (d : ℕ) (ds rest : List ℕ) → all_ascii_digits (d ∷ ds) ≡ true → value_after 0 (d ∷ ds) ≡ suc n → n < 2 ^ 127 → Stops rest → lexeme_at (45 ∷ (d ∷ (ds ++ rest))) ≡ (Some (tokens.Signed (negsuc n)), rest)
 minus_lexeme n d ds rest h v small stops =
     let p = and_true (is_ascii_digit d) (all_ascii_digits ds) h in
@@ -218,17 +188,6 @@ minus_lexeme n d ds rest h v small stops =
     let read : ◌≡◌ {A = Option Token × List ℕ} (Some (signed_token true (value_after 0 (run is_ascii_digit (d ∷ (ds ++ rest))).0)), (run is_ascii_digit (d ∷ (ds ++ rest))).1) (Some (tokens.Signed (negsuc n)), rest) =
     ap (λ (x : List ℕ × List ℕ). (Some (signed_token true (value_after 0 x.0)), x.1)) r ∙ ap (λ (t : Token). (Some t, rest)) token in
     signed_lexeme d (ds ++ rest) (tokens.Signed (negsuc n)) rest p.0 read
-
-pub minus_atom : (n : ℕ) → n < 2 ^ 127 → Atom (signed_decimal (negsuc n)) (tokens.Signed (negsuc n) ∷ [])
-minus_atom n small =
-    let k = numeral (suc n) (omega arith) in
-    record {
-      reads = λ rest more stops again.
-          let e = minus_lexeme n k.first k.others rest k.digits k.value small stops in
-          subst (λ (l : List ℕ). Has false (45 ∷ (l ++ rest)) (tokens.Signed (negsuc n) ∷ more)) (sym k.is)
-          (has_symbol false 45 (k.first ∷ (k.others ++ rest)) (tokens.Signed (negsuc n)) rest more refl e refl (omega (arith, length_later k.others rest)) (again false));
-      utf8 = IsUtf8-append (45 ∷ []) (decimal (suc n)) (ascii_utf8_one 45 (omega arith)) k.utf8;
-    }
 
 -- KEYWORDS AND SYMBOLS
 
@@ -261,133 +220,185 @@ keyword_at : (w rest : List ℕ) (f : Fixed) → list_all continues_name w ≡ t
 keyword_at w rest f h k s =
     ap (λ (r : List ℕ × List ℕ). (word_token (keyword_of r.0) r.0, r.1)) (word_run w rest h s) ∙ ap (λ (o : Option Fixed). (word_token o w, rest)) k
 
-pub null_atom : Atom (codes "NULL") (tokens.Fixed Null ∷ [])
-null_atom = record {
-  reads = λ rest more stops again.
-      has_token false 78 (85 ∷ 76 ∷ 76 ∷ rest) (tokens.Fixed Null) rest more refl (ap seen (keyword_at (codes "NULL") rest Null refl refl stops)) refl (omega arith) (again true);
-  utf8 = plain_utf8 (codes "NULL") refl;
-}
+-- PARTS OF A TEXT
 
-pub negation_suffix : Suffix (codes " NOT") (tokens.Fixed Not ∷ [])
-negation_suffix = record {
-  reads = λ touching rest more stops again.
-      has_blank touching (78 ∷ 79 ∷ 84 ∷ rest) (tokens.Fixed Not ∷ more)
-      (has_token false 78 (79 ∷ 84 ∷ rest) (tokens.Fixed Not) rest more refl (ap seen (keyword_at (codes "NOT") rest Not refl refl stops)) refl (omega arith) (again true));
-  stops = λ rest h. refl;
-  utf8 = plain_utf8 (codes " NOT") refl;
-}
+-- a change that leaves all but bare names as they are
+pub record Fixes (change : Token → Token) : Type 0 where
+  pub fixed : (f : Fixed) → change (tokens.Fixed f) ≡ tokens.Fixed f
+  pub quoted : (n : List ℕ) → change (tokens.Quoted n) ≡ tokens.Quoted n
+  pub digits : (z : ℤ) → change (tokens.Digits z) ≡ tokens.Digits z
+  pub signed : (z : ℤ) → change (tokens.Signed z) ≡ tokens.Signed z
+  pub text : (t : List ℕ) → change (tokens.Text t) ≡ tokens.Text t
 
--- a keyword or symbol with a blank on each side
-pub spaced : (c : ℕ) (cs : List ℕ) (f : Fixed) → ((rest : List ℕ) → lexeme_at (c ∷ (cs ++ (32 ∷ rest))) ≡ (Some (tokens.Fixed f), 32 ∷ rest)) → is_plain (32 ∷ (c ∷ (cs ++ (32 ∷ [])))) ≡ true
-    → Separator (32 ∷ (c ∷ (cs ++ (32 ∷ [])))) (tokens.Fixed f ∷ [])
-spaced c cs f e u = record {
-  reads = λ touching rest more again.
-      subst (λ (l : List ℕ). Has touching (32 ∷ (c ∷ l)) (tokens.Fixed f ∷ more)) (sym (append_assoc cs (32 ∷ []) rest))
-      (has_blank touching (c ∷ (cs ++ (32 ∷ rest))) (tokens.Fixed f ∷ more)
-      (has_token false c (cs ++ (32 ∷ rest)) (tokens.Fixed f) (32 ∷ rest) more refl (e rest) refl (length_later cs (32 ∷ rest)) (has_blank (continues_name c) rest more again)));
-  stops = λ rest. refl;
-  utf8 = plain_utf8 (32 ∷ (c ∷ (cs ++ (32 ∷ [])))) u;
-}
+module _ (change : Token → Token) (fixes : Fixes change) where
+  pub name_atom : (n : List ℕ) → is_name n ≡ true → (Atom change) (name_text n) (tokens.Quoted n ∷ [])
+  name_atom n h = record {
+    reads = λ rest more stops again.
+        let e : lexeme_at (96 ∷ ((n ++ (96 ∷ [])) ++ rest)) ≡ (Some (tokens.Quoted n), rest) = ap (λ (l : List ℕ). lexeme_at (96 ∷ l)) (append_assoc n (96 ∷ []) rest) ∙ quoted_name_at n rest h in
+        let l : length rest ≤ length ((n ++ (96 ∷ [])) ++ rest) = subst (λ (s : List ℕ). length rest ≤ length s) (sym (append_assoc n (96 ∷ []) rest)) (length_behind n rest 96) in
+        has_symbol change false 96 ((n ++ (96 ∷ [])) ++ rest) (tokens.Quoted n) (tokens.Quoted n) rest more (fixes.quoted n) refl e refl l (again false);
+    utf8 = enclosed_utf8 96 96 n (omega arith) (omega arith) (name_utf8 n h);
+  }
 
--- one symbol
-pub symbol : (c : ℕ) (f : Fixed) → continues_name c ≡ false → (continues_name c || c == 39) ≡ false → ((rest : List ℕ) → lexeme_at (c ∷ rest) ≡ (Some (tokens.Fixed f), rest)) → is_plain (c ∷ []) ≡ true → Separator (c ∷ []) (tokens.Fixed f ∷ [])
-symbol c f other stops e u = record {
-  reads = λ touching rest more again. has_symbol touching c rest (tokens.Fixed f) rest more other (e rest) refl (omega arith) again;
-  stops = λ rest. stops;
-  utf8 = plain_utf8 (c ∷ []) u;
-}
+  pub text_atom : (t : List ℕ) → IsUtf8 t → IsUtf8 (flat_map escaped t) → (Atom change) (quoted t) (tokens.Text t ∷ [])
+  text_atom t u v = record {
+    reads = λ rest more stops again.
+        let e : lexeme_at (39 ∷ ((flat_map escaped t ++ (39 ∷ [])) ++ rest)) ≡ (Some (tokens.Text t), rest) =
+        ap (λ (l : List ℕ). lexeme_at (39 ∷ l)) (append_assoc (flat_map escaped t) (39 ∷ []) rest) ∙ (rw (text_read t rest stops, utf8_lossy-IsUtf8 t u) refl) in
+        let l : length rest ≤ length ((flat_map escaped t ++ (39 ∷ [])) ++ rest) = subst (λ (s : List ℕ). length rest ≤ length s) (sym (append_assoc (flat_map escaped t) (39 ∷ []) rest)) (length_behind (flat_map escaped t) rest 39) in
+        has_symbol change false 39 ((flat_map escaped t ++ (39 ∷ [])) ++ rest) (tokens.Text t) (tokens.Text t) rest more (fixes.text t) refl e refl l (again false);
+    utf8 = enclosed_utf8 39 39 (flat_map escaped t) (omega arith) (omega arith) v;
+  }
 
-pub open_symbol : Separator (codes "(") (tokens.Fixed Open ∷ [])
-open_symbol = symbol 40 Open refl refl (λ rest. refl) refl
+  pub digits_atom : (n : ℕ) → n < 2 ^ 127 → (Atom change) (signed_decimal (pos n)) (tokens.Digits (pos n) ∷ [])
+  digits_atom n small =
+      let k = numeral n (omega arith) in
+      record {
+        reads = λ rest more stops again.
+            let e = digits_lexeme n k.first k.others rest k.digits k.value small stops in
+            subst (λ (l : List ℕ). Has change false (l ++ rest) (tokens.Digits (pos n) ∷ more)) (sym k.is)
+            (has_token change false k.first (k.others ++ rest) (tokens.Digits (pos n)) (tokens.Digits (pos n)) rest more (fixes.digits (pos n)) refl e refl (length_later k.others rest) (again (continues_name k.first)));
+        utf8 = k.utf8;
+      }
 
-pub close_symbol : Separator (codes ")") (tokens.Fixed Close ∷ [])
-close_symbol = symbol 41 Close refl refl (λ rest. refl) refl
+  pub minus_atom : (n : ℕ) → n < 2 ^ 127 → (Atom change) (signed_decimal (negsuc n)) (tokens.Signed (negsuc n) ∷ [])
+  minus_atom n small =
+      let k = numeral (suc n) (omega arith) in
+      record {
+        reads = λ rest more stops again.
+            let e = minus_lexeme n k.first k.others rest k.digits k.value small stops in
+            subst (λ (l : List ℕ). Has change false (45 ∷ (l ++ rest)) (tokens.Signed (negsuc n) ∷ more)) (sym k.is)
+            (has_symbol change false 45 (k.first ∷ (k.others ++ rest)) (tokens.Signed (negsuc n)) (tokens.Signed (negsuc n)) rest more (fixes.signed (negsuc n)) refl e refl (omega (arith, length_later k.others rest)) (again false));
+        utf8 = IsUtf8-append (45 ∷ []) (decimal (suc n)) (ascii_utf8_one 45 (omega arith)) k.utf8;
+      }
 
-pub comma_symbol : Separator (codes ",") (tokens.Fixed Comma ∷ [])
-comma_symbol = symbol 44 Comma refl refl (λ rest. refl) refl
+  pub null_atom : (Atom change) (codes "NULL") (tokens.Fixed Null ∷ [])
+  null_atom = record {
+    reads = λ rest more stops again.
+        has_token change false 78 (85 ∷ 76 ∷ 76 ∷ rest) (tokens.Fixed Null) (tokens.Fixed Null) rest more (fixes.fixed Null) refl (ap seen (keyword_at (codes "NULL") rest Null refl refl stops)) refl (omega arith) (again true);
+    utf8 = plain_utf8 (codes "NULL") refl;
+  }
 
-pub dot_symbol : Separator (codes ".") (tokens.Fixed Dot ∷ [])
-dot_symbol = symbol 46 Dot refl refl (λ rest. refl) refl
+  pub negation_suffix : (Suffix change) (codes " NOT") (tokens.Fixed Not ∷ [])
+  negation_suffix = record {
+    reads = λ touching rest more stops again.
+        has_blank change touching (78 ∷ 79 ∷ 84 ∷ rest) (tokens.Fixed Not ∷ more)
+        (has_token change false 78 (79 ∷ 84 ∷ rest) (tokens.Fixed Not) (tokens.Fixed Not) rest more (fixes.fixed Not) refl (ap seen (keyword_at (codes "NOT") rest Not refl refl stops)) refl (omega arith) (again true));
+    stops = λ rest h. refl;
+    utf8 = plain_utf8 (codes " NOT") refl;
+  }
 
-pub star_symbol : Separator (codes "*") (tokens.Fixed Star ∷ [])
-star_symbol = symbol 42 Star refl refl (λ rest. refl) refl
+  -- a keyword or symbol with a blank on each side
+  pub spaced : (c : ℕ) (cs : List ℕ) (f : Fixed) → ((rest : List ℕ) → lexeme_at (c ∷ (cs ++ (32 ∷ rest))) ≡ (Some (tokens.Fixed f), 32 ∷ rest)) → is_plain (32 ∷ (c ∷ (cs ++ (32 ∷ [])))) ≡ true
+      → (Separator change) (32 ∷ (c ∷ (cs ++ (32 ∷ [])))) (tokens.Fixed f ∷ [])
+  spaced c cs f e u = record {
+    reads = λ touching rest more again.
+        subst (λ (l : List ℕ). Has change touching (32 ∷ (c ∷ l)) (tokens.Fixed f ∷ more)) (sym (append_assoc cs (32 ∷ []) rest))
+        (has_blank change touching (c ∷ (cs ++ (32 ∷ rest))) (tokens.Fixed f ∷ more)
+        (has_token change false c (cs ++ (32 ∷ rest)) (tokens.Fixed f) (tokens.Fixed f) (32 ∷ rest) more (fixes.fixed f) refl (e rest) refl (length_later cs (32 ∷ rest)) (has_blank change (continues_name c) rest more again)));
+    stops = λ rest. refl;
+    utf8 = plain_utf8 (32 ∷ (c ∷ (cs ++ (32 ∷ [])))) u;
+  }
 
--- a symbol and a blank behind it, and a symbol and a blank before it
-pub spaced_comma : Separator (codes ", ") (tokens.Fixed Comma ∷ [])
-spaced_comma = record {
-  reads = λ touching rest more again. has_symbol touching 44 (32 ∷ rest) (tokens.Fixed Comma) (32 ∷ rest) more refl refl refl (omega arith) (has_blank false rest more again);
-  stops = λ rest. refl;
-  utf8 = plain_utf8 (codes ", ") refl;
-}
+  -- one symbol
+  pub symbol : (c : ℕ) (f : Fixed) → continues_name c ≡ false → (continues_name c || c == 39) ≡ false → ((rest : List ℕ) → lexeme_at (c ∷ rest) ≡ (Some (tokens.Fixed f), rest)) → is_plain (c ∷ []) ≡ true → (Separator change) (c ∷ []) (tokens.Fixed f ∷ [])
+  symbol c f other stops e u = record {
+    reads = λ touching rest more again. has_symbol change touching c rest (tokens.Fixed f) (tokens.Fixed f) rest more (fixes.fixed f) other (e rest) refl (omega arith) again;
+    stops = λ rest. stops;
+    utf8 = plain_utf8 (c ∷ []) u;
+  }
 
-pub spaced_open : Separator (codes " (") (tokens.Fixed Open ∷ [])
-spaced_open = record {
-  reads = λ touching rest more again. has_blank touching (40 ∷ rest) (tokens.Fixed Open ∷ more) (has_symbol false 40 rest (tokens.Fixed Open) rest more refl refl refl (omega arith) again);
-  stops = λ rest. refl;
-  utf8 = plain_utf8 (codes " (") refl;
-}
+  pub open_symbol : (Separator change) (codes "(") (tokens.Fixed Open ∷ [])
+  open_symbol = symbol 40 Open refl refl (λ rest. refl) refl
 
-pub in_text : Separator (codes " IN (") (tokens.Fixed In ∷ tokens.Fixed Open ∷ [])
-in_text = record {
-  reads = λ touching rest more again.
-      has_blank touching (73 ∷ 78 ∷ 32 ∷ 40 ∷ rest) (tokens.Fixed In ∷ tokens.Fixed Open ∷ more)
-      (has_token false 73 (78 ∷ 32 ∷ 40 ∷ rest) (tokens.Fixed In) (32 ∷ 40 ∷ rest) (tokens.Fixed Open ∷ more) refl refl refl (omega arith)
-      (spaced_open.reads true rest more again));
-  stops = λ rest. refl;
-  utf8 = plain_utf8 (codes " IN (") refl;
-}
+  pub close_symbol : (Separator change) (codes ")") (tokens.Fixed Close ∷ [])
+  close_symbol = symbol 41 Close refl refl (λ rest. refl) refl
 
--- a keyword and a blank behind it
-pub leading : (c : ℕ) (cs : List ℕ) (f : Fixed) → ((rest : List ℕ) → lexeme_at (c ∷ (cs ++ (32 ∷ rest))) ≡ (Some (tokens.Fixed f), 32 ∷ rest)) → is_plain (c ∷ (cs ++ (32 ∷ []))) ≡ true → Prefix (c ∷ (cs ++ (32 ∷ []))) (tokens.Fixed f ∷ [])
-leading c cs f e u = record {
-  reads = λ rest more again.
-      subst (λ (l : List ℕ). Has false (c ∷ l) (tokens.Fixed f ∷ more)) (sym (append_assoc cs (32 ∷ []) rest))
-      (has_token false c (cs ++ (32 ∷ rest)) (tokens.Fixed f) (32 ∷ rest) more refl (e rest) refl (length_later cs (32 ∷ rest)) (has_blank (continues_name c) rest more again));
-  utf8 = plain_utf8 (c ∷ (cs ++ (32 ∷ []))) u;
-}
+  pub comma_symbol : (Separator change) (codes ",") (tokens.Fixed Comma ∷ [])
+  comma_symbol = symbol 44 Comma refl refl (λ rest. refl) refl
 
-pub not_prefix : Prefix (codes "NOT ") (tokens.Fixed Not ∷ [])
-not_prefix = leading 78 (79 ∷ 84 ∷ []) Not (λ rest. refl) refl
+  pub dot_symbol : (Separator change) (codes ".") (tokens.Fixed Dot ∷ [])
+  dot_symbol = symbol 46 Dot refl refl (λ rest. refl) refl
 
-pub select_prefix : Prefix (codes "SELECT ") (tokens.Fixed Select ∷ [])
-select_prefix = leading 83 (codes "ELECT") Select (λ rest. refl) refl
+  pub star_symbol : (Separator change) (codes "*") (tokens.Fixed Star ∷ [])
+  star_symbol = symbol 42 Star refl refl (λ rest. refl) refl
 
-pub into_text : Separator (codes " INTO ") (tokens.Fixed Into ∷ [])
-into_text = spaced 73 (codes "NTO") Into (λ rest. refl) refl
+  -- a symbol and a blank behind it, and a symbol and a blank before it
+  pub spaced_comma : (Separator change) (codes ", ") (tokens.Fixed Comma ∷ [])
+  spaced_comma = record {
+    reads = λ touching rest more again. has_symbol change touching 44 (32 ∷ rest) (tokens.Fixed Comma) (tokens.Fixed Comma) (32 ∷ rest) more (fixes.fixed Comma) refl refl refl (omega arith) (has_blank change false rest more again);
+    stops = λ rest. refl;
+    utf8 = plain_utf8 (codes ", ") refl;
+  }
 
-pub insert_prefix : Prefix (codes "INSERT INTO ") (tokens.Fixed Insert ∷ tokens.Fixed Into ∷ [])
-insert_prefix = record {
-  reads = λ rest more again.
-      has_token false 73 (codes "NSERT INTO " ++ rest) (tokens.Fixed Insert) (codes " INTO " ++ rest) (tokens.Fixed Into ∷ more) refl refl refl (omega arith)
-      (into_text.reads true rest more again);
-  utf8 = plain_utf8 (codes "INSERT INTO ") refl;
-}
+  pub spaced_open : (Separator change) (codes " (") (tokens.Fixed Open ∷ [])
+  spaced_open = record {
+    reads = λ touching rest more again. has_blank change touching (40 ∷ rest) (tokens.Fixed Open ∷ more) (has_symbol change false 40 rest (tokens.Fixed Open) (tokens.Fixed Open) rest more (fixes.fixed Open) refl refl refl (omega arith) again);
+    stops = λ rest. refl;
+    utf8 = plain_utf8 (codes " (") refl;
+  }
 
-pub and_text : Separator (codes " AND ") (tokens.Fixed And ∷ [])
-and_text = spaced 65 (codes "ND") And (λ rest. refl) refl
+  pub in_text : (Separator change) (codes " IN (") (tokens.Fixed In ∷ tokens.Fixed Open ∷ [])
+  in_text = record {
+    reads = λ touching rest more again.
+        has_blank change touching (73 ∷ 78 ∷ 32 ∷ 40 ∷ rest) (tokens.Fixed In ∷ tokens.Fixed Open ∷ more)
+        (has_token change false 73 (78 ∷ 32 ∷ 40 ∷ rest) (tokens.Fixed In) (tokens.Fixed In) (32 ∷ 40 ∷ rest) (tokens.Fixed Open ∷ more) (fixes.fixed In) refl refl refl (omega arith)
+        (spaced_open.reads true rest more again));
+    stops = λ rest. refl;
+    utf8 = plain_utf8 (codes " IN (") refl;
+  }
 
-pub or_text : Separator (codes " OR ") (tokens.Fixed Or ∷ [])
-or_text = spaced 79 (codes "R") Or (λ rest. refl) refl
+  -- a keyword and a blank behind it
+  pub leading : (c : ℕ) (cs : List ℕ) (f : Fixed) → ((rest : List ℕ) → lexeme_at (c ∷ (cs ++ (32 ∷ rest))) ≡ (Some (tokens.Fixed f), 32 ∷ rest)) → is_plain (c ∷ (cs ++ (32 ∷ []))) ≡ true → (Prefix change) (c ∷ (cs ++ (32 ∷ []))) (tokens.Fixed f ∷ [])
+  leading c cs f e u = record {
+    reads = λ rest more again.
+        subst (λ (l : List ℕ). Has change false (c ∷ l) (tokens.Fixed f ∷ more)) (sym (append_assoc cs (32 ∷ []) rest))
+        (has_token change false c (cs ++ (32 ∷ rest)) (tokens.Fixed f) (tokens.Fixed f) (32 ∷ rest) more (fixes.fixed f) refl (e rest) refl (length_later cs (32 ∷ rest)) (has_blank change (continues_name c) rest more again));
+    utf8 = plain_utf8 (c ∷ (cs ++ (32 ∷ []))) u;
+  }
 
-pub between_text : Separator (codes " BETWEEN ") (tokens.Fixed Between ∷ [])
-between_text = spaced 66 (codes "ETWEEN") Between (λ rest. refl) refl
+  pub not_prefix : (Prefix change) (codes "NOT ") (tokens.Fixed Not ∷ [])
+  not_prefix = leading 78 (79 ∷ 84 ∷ []) Not (λ rest. refl) refl
 
-pub as_text : Separator (codes " AS ") (tokens.Fixed As ∷ [])
-as_text = spaced 65 (codes "S") As (λ rest. refl) refl
+  pub select_prefix : (Prefix change) (codes "SELECT ") (tokens.Fixed Select ∷ [])
+  select_prefix = leading 83 (codes "ELECT") Select (λ rest. refl) refl
 
-pub where_text : Separator (codes " WHERE ") (tokens.Fixed Where ∷ [])
-where_text = spaced 87 (codes "HERE") Where (λ rest. refl) refl
+  pub into_text : (Separator change) (codes " INTO ") (tokens.Fixed Into ∷ [])
+  into_text = spaced 73 (codes "NTO") Into (λ rest. refl) refl
 
-pub values_text : Separator (codes " VALUES ") (tokens.Fixed Values ∷ [])
-values_text = spaced 86 (codes "ALUES") Values (λ rest. refl) refl
+  pub insert_prefix : (Prefix change) (codes "INSERT INTO ") (tokens.Fixed Insert ∷ tokens.Fixed Into ∷ [])
+  insert_prefix = record {
+    reads = λ rest more again.
+        has_token change false 73 (codes "NSERT INTO " ++ rest) (tokens.Fixed Insert) (tokens.Fixed Insert) (codes " INTO " ++ rest) (tokens.Fixed Into ∷ more) (fixes.fixed Insert) refl refl refl (omega arith)
+        (into_text.reads true rest more again);
+    utf8 = plain_utf8 (codes "INSERT INTO ") refl;
+  }
 
-pub from_text : Separator (codes " FROM ") (tokens.Fixed From ∷ [])
-from_text = spaced 70 (codes "ROM") From (λ rest. refl) refl
+  pub and_text : (Separator change) (codes " AND ") (tokens.Fixed And ∷ [])
+  and_text = spaced 65 (codes "ND") And (λ rest. refl) refl
 
-pub comparison_sign : (c : Comparison) → (f : Fixed) × (comparison_of (tokens.Fixed f) ≡ Some c) × Separator (comparison_text c) (tokens.Fixed f ∷ [])
-comparison_sign comparisons.Equal = (Equal, refl, spaced 61 [] Equal (λ rest. refl) refl)
-comparison_sign comparisons.NotEqual = (NotEqual, refl, spaced 60 (62 ∷ []) NotEqual (λ rest. refl) refl)
-comparison_sign comparisons.Less = (Less, refl, spaced 60 [] Less (λ rest. refl) refl)
-comparison_sign comparisons.AtMost = (AtMost, refl, spaced 60 (61 ∷ []) AtMost (λ rest. refl) refl)
-comparison_sign comparisons.Greater = (Greater, refl, spaced 62 [] Greater (λ rest. refl) refl)
-comparison_sign comparisons.AtLeast = (AtLeast, refl, spaced 62 (61 ∷ []) AtLeast (λ rest. refl) refl)
+  pub or_text : (Separator change) (codes " OR ") (tokens.Fixed Or ∷ [])
+  or_text = spaced 79 (codes "R") Or (λ rest. refl) refl
+
+  pub between_text : (Separator change) (codes " BETWEEN ") (tokens.Fixed Between ∷ [])
+  between_text = spaced 66 (codes "ETWEEN") Between (λ rest. refl) refl
+
+  pub as_text : (Separator change) (codes " AS ") (tokens.Fixed As ∷ [])
+  as_text = spaced 65 (codes "S") As (λ rest. refl) refl
+
+  pub where_text : (Separator change) (codes " WHERE ") (tokens.Fixed Where ∷ [])
+  where_text = spaced 87 (codes "HERE") Where (λ rest. refl) refl
+
+  pub values_text : (Separator change) (codes " VALUES ") (tokens.Fixed Values ∷ [])
+  values_text = spaced 86 (codes "ALUES") Values (λ rest. refl) refl
+
+  pub from_text : (Separator change) (codes " FROM ") (tokens.Fixed From ∷ [])
+  from_text = spaced 70 (codes "ROM") From (λ rest. refl) refl
+
+  pub comparison_sign : (c : Comparison) → (f : Fixed) × (comparison_of (tokens.Fixed f) ≡ Some c) × (Separator change) (comparison_text c) (tokens.Fixed f ∷ [])
+  comparison_sign comparisons.Equal = (Equal, refl, spaced 61 [] Equal (λ rest. refl) refl)
+  comparison_sign comparisons.NotEqual = (NotEqual, refl, spaced 60 (62 ∷ []) NotEqual (λ rest. refl) refl)
+  comparison_sign comparisons.Less = (Less, refl, spaced 60 [] Less (λ rest. refl) refl)
+  comparison_sign comparisons.AtMost = (AtMost, refl, spaced 60 (61 ∷ []) AtMost (λ rest. refl) refl)
+  comparison_sign comparisons.Greater = (Greater, refl, spaced 62 [] Greater (λ rest. refl) refl)
+  comparison_sign comparisons.AtLeast = (AtLeast, refl, spaced 62 (61 ∷ []) AtLeast (λ rest. refl) refl)

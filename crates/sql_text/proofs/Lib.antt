@@ -12,3 +12,4 @@ pub mod Written
 pub mod Lexemes
 pub mod Sound
 pub mod Respelled
+pub mod Printed

@@ -1,4 +1,4 @@
-use Rattle.sql_text.proofs.Respelled.{printed_read}
+use Rattle.sql_text.proofs.Printed.{printed_read}
 use Rattle.sql_text.proofs.laws.printed_statements_are_read.Goals as goal
 
 pub returns : goal.returns
