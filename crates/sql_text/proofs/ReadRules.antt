@@ -14,7 +14,7 @@ use Rattle.sql_text.specs.declared.statement.SelectItems.{SelectItems}
 use Rattle.sql_text.specs.declared.statement.SelectItems.TheVariants as items
 use Rattle.sql_text.specs.declared.statement.Item.{Item}
 use Rattle.sql_text.specs.declared.token.Fixed.{Fixed}
-use Rattle.sql_text.specs.declared.token.Fixed.TheVariants.{And, As, Between, From, In, Insert, Into, Not, Null, Or, Select, Values, Where, Open, Close, Comma, Dot, Star, Semicolon, Equal, NotEqual, Less, AtMost, Greater, AtLeast}
+use Rattle.sql_text.specs.declared.token.Fixed.TheVariants.{And, As, Between, From, In, Insert, Into, Not, Null, Or, Select, Values, Where, Open, Close, Comma, Dot, Star, Semicolon, Equal, NotEqual, Less, AtMost, Greater, AtLeast, By, Commit, Count, Delete, End, For, Limit, Lock, Max, Min, Mode, Order, Prepare, Recover, Replace, Rollback, Share, Start, Sum, Update, Xa}
 use Rattle.sql_text.specs.declared.token.Token.{Token}
 use Rattle.sql_text.specs.declared.token.Token.TheVariants as tokens
 use Rattle.sql_text.specs.declared.fault.Stop.{Stop}
@@ -28,17 +28,17 @@ use Rattle.sql_text.proofs.Nested.{zero_field, suc_field, parenthesized_field, f
 
 -- ---- the same, with what is known of a field left to its type
 
-both : {X Y : Type 0} {A : Rules X} {a : Reads X} {B : X → Rules Y} {b : X → Reads Y} {depth : ℕ} {empty_a empty_b : Bool} {first_a further_a first_b further_b : List ℕ}
+pub both : {X Y : Type 0} {A : Rules X} {a : Reads X} {B : X → Rules Y} {b : X → Reads Y} {depth : ℕ} {empty_a empty_b : Bool} {first_a further_a first_b further_b : List ℕ}
     → IsField A depth a empty_a first_a further_a → ((x : X) → IsField (B x) depth (b x) empty_b first_b further_b) → apart first_b further_a ≡ true
     → IsField (λ n. A n ▷ λ x. B x n) depth (λ ts. a ts >>= λ p. b p.0 p.1) (empty_a && empty_b) (first_a ++ cond empty_a first_b []) (further_b ++ cond empty_b further_a [])
 both {X} {Y} {A} {a} {B} {b} {depth} {empty_a} {empty_b} {first_a} {further_a} {first_b} {further_b} fa fb away = then_field A a B b depth empty_a empty_b first_a further_a first_b further_b fa fb away
 
-behind_fixed : {X : Type 0} (f : Fixed) {A : Rules X} {depth : ℕ} {read : Reads X} {empty : Bool} {first further : List ℕ} → IsField A depth read empty first further
+pub behind_fixed : {X : Type 0} (f : Fixed) {A : Rules X} {depth : ℕ} {read : Reads X} {empty : Bool} {first further : List ℕ} → IsField A depth read empty first further
     → IsField (λ n. f ⊳ A n) depth (λ ts. expect f ts >>= read) false (number_of f ∷ []) further
 behind_fixed f {A} {depth} {read} {empty} {first} {further} field = fixed_field f A depth read empty first further field
 
 -- these kinds are among those
-abbrev subset : List ℕ → List ℕ → Bool
+abbrev pub subset : List ℕ → List ℕ → Bool
 subset [] t = true
 subset (x ∷ s) t = member x t && subset s t
 
@@ -66,7 +66,7 @@ clear_subset s t [] h e = tt
 clear_subset s t (c ∷ ts) h e = not_among (kind_of c) s t h e
 
 -- with these kinds, of which there may be more
-known_as : {X : Type 0} {A : Rules X} {depth : ℕ} {read : Reads X} {empty : Bool} {first further : List ℕ} (wide_first wide_further : List ℕ) → subset first wide_first ≡ true → subset further wide_further ≡ true
+pub known_as : {X : Type 0} {A : Rules X} {depth : ℕ} {read : Reads X} {empty : Bool} {first further : List ℕ} (wide_first wide_further : List ℕ) → subset first wide_first ≡ true → subset further wide_further ≡ true
     → IsField A depth read empty first further → IsField A depth read empty wide_first wide_further
 known_as {X} {A} {depth} {read} {empty} {first} {further} wide_first wide_further h k field = record {
   took = field.took;
@@ -88,7 +88,7 @@ name_covers (tokens.Signed n) x h = absurd cc
 name_covers (tokens.Text t) x h = absurd cc
 name_covers tokens.Bad x h = absurd cc
 
-name_field : (depth : ℕ) → IsField (λ _. name) depth name_at false (100 ∷ []) []
+pub name_field : (depth : ℕ) → IsField (λ _. name) depth name_at false (100 ∷ []) []
 unfolding name_at
 name_field depth = one_field name_of (100 ∷ []) depth (record { cover = name_covers; token = tokens.Bare (97 ∷ []); example = 97 ∷ []; known = refl })
 
@@ -133,6 +133,27 @@ literal_tells_fixed Less = refl
 literal_tells_fixed AtMost = refl
 literal_tells_fixed Greater = refl
 literal_tells_fixed AtLeast = refl
+literal_tells_fixed By = refl
+literal_tells_fixed Commit = refl
+literal_tells_fixed Count = refl
+literal_tells_fixed Delete = refl
+literal_tells_fixed End = refl
+literal_tells_fixed For = refl
+literal_tells_fixed Limit = refl
+literal_tells_fixed Lock = refl
+literal_tells_fixed Max = refl
+literal_tells_fixed Min = refl
+literal_tells_fixed Mode = refl
+literal_tells_fixed Order = refl
+literal_tells_fixed Prepare = refl
+literal_tells_fixed Recover = refl
+literal_tells_fixed Replace = refl
+literal_tells_fixed Rollback = refl
+literal_tells_fixed Share = refl
+literal_tells_fixed Start = refl
+literal_tells_fixed Sum = refl
+literal_tells_fixed Update = refl
+literal_tells_fixed Xa = refl
 
 literal_head : (t : Token) (ts : List Token) → stands literal_of (t ∷ ts) ≡ member (kind_of t) literal_kinds
 literal_head (tokens.Fixed f) ts = literal_tells_fixed f
@@ -172,6 +193,27 @@ name_head_fixed Less = refl
 name_head_fixed AtMost = refl
 name_head_fixed Greater = refl
 name_head_fixed AtLeast = refl
+name_head_fixed By = refl
+name_head_fixed Commit = refl
+name_head_fixed Count = refl
+name_head_fixed Delete = refl
+name_head_fixed End = refl
+name_head_fixed For = refl
+name_head_fixed Limit = refl
+name_head_fixed Lock = refl
+name_head_fixed Max = refl
+name_head_fixed Min = refl
+name_head_fixed Mode = refl
+name_head_fixed Order = refl
+name_head_fixed Prepare = refl
+name_head_fixed Recover = refl
+name_head_fixed Replace = refl
+name_head_fixed Rollback = refl
+name_head_fixed Share = refl
+name_head_fixed Start = refl
+name_head_fixed Sum = refl
+name_head_fixed Update = refl
+name_head_fixed Xa = refl
 
 name_head : (t : Token) (ts : List Token) → stands name_of (t ∷ ts) ≡ member (kind_of t) (100 ∷ [])
 name_head (tokens.Fixed f) ts = name_head_fixed f
@@ -214,6 +256,27 @@ comparison_tells_fixed Less = refl
 comparison_tells_fixed AtMost = refl
 comparison_tells_fixed Greater = refl
 comparison_tells_fixed AtLeast = refl
+comparison_tells_fixed By = refl
+comparison_tells_fixed Commit = refl
+comparison_tells_fixed Count = refl
+comparison_tells_fixed Delete = refl
+comparison_tells_fixed End = refl
+comparison_tells_fixed For = refl
+comparison_tells_fixed Limit = refl
+comparison_tells_fixed Lock = refl
+comparison_tells_fixed Max = refl
+comparison_tells_fixed Min = refl
+comparison_tells_fixed Mode = refl
+comparison_tells_fixed Order = refl
+comparison_tells_fixed Prepare = refl
+comparison_tells_fixed Recover = refl
+comparison_tells_fixed Replace = refl
+comparison_tells_fixed Rollback = refl
+comparison_tells_fixed Share = refl
+comparison_tells_fixed Start = refl
+comparison_tells_fixed Sum = refl
+comparison_tells_fixed Update = refl
+comparison_tells_fixed Xa = refl
 
 comparison_head : (t : Token) (ts : List Token) → stands comparison_of (t ∷ ts) ≡ member (kind_of t) comparison_kinds
 comparison_head (tokens.Fixed f) ts = comparison_tells_fixed f
@@ -333,7 +396,7 @@ from_column : (c : ColumnName) (ts : List Token) → column c ts → first_colum
 from_column c ts (inl (n, s)) = (n, record { front = s.front; rest = s.rest; whole = s.whole; first = s.first; second = inl s.second })
 from_column c ts (inr (n, s)) = (n, record { front = s.front; rest = s.rest; whole = s.whole; first = s.first; second = inr s.second })
 
-column_field : (depth : ℕ) → IsField (λ _. column) depth column_at false (100 ∷ []) (16 ∷ [])
+pub column_field : (depth : ℕ) → IsField (λ _. column) depth column_at false (100 ∷ []) (16 ∷ [])
 unfolding column_at
 column_field depth =
     same_rule (λ _. first_column) (λ _. column) depth column_at false (100 ∷ []) (16 ∷ []) (λ _. to_column) (λ _. from_column)
@@ -695,7 +758,7 @@ unfolding tab_at
 tab_field depth = known_as (100 ∷ []) (1 ∷ 100 ∷ 16 ∷ []) refl refl
     (both (table_field depth) (λ t. both (alias_field depth) (λ a. is_field (record { table = t; alias = a }) depth) refl) refl)
 
-where_field : (depth : ℕ) → IsField where_cond depth (where_at depth) true (12 ∷ []) (12 ∷ 9 ∷ 0 ∷ 16 ∷ [])
+pub where_field : (depth : ℕ) → IsField where_cond depth (where_at depth) true (12 ∷ []) (12 ∷ 9 ∷ 0 ∷ 16 ∷ [])
 unfolding where_at
 where_field depth = known_as (12 ∷ []) (12 ∷ 9 ∷ 0 ∷ 16 ∷ []) refl refl
     (fixed_or Where (λ n. cond_rule n ▷ λ c. is (Some c)) (λ ts. cond_at depth ts >>= λ c. Ok (Some c.0, c.1)) (λ _. is None) (λ ts. Ok (None, ts)) depth false true neg_kinds (9 ∷ 0 ∷ 16 ∷ []) [] []

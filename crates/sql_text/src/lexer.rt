@@ -4,10 +4,10 @@ ghost use Rattle.std.specs.Char.{is_ascii_digit};
 ghost use Rattle.std.specs.Option.{option_copied};
 ghost use Rattle.sql_values.specs.Names.{is_name, begins_name as may_begin, continues_name as may_continue};
 ghost use Rattle.sql_text.specs.Lexing.{piece_at, escape_at, onto_all, cap};
-ghost use Rattle.sql_text.specs.Tokens.{is_word as word_is, keyword_of, word_token, run, word_at, value_after, digits_token, signed_token, digits_at, signed_at, Mode, Plain, Quote, Escape, escape_of, text_from, text_at, up_to, quoted_at, starts as starts_with_byte, rest_of, symbol_at, is_blank as byte_is_blank, comment_end, comment_at, lexeme_at, is_bad as token_is_bad, step_at, placed, Placed, skipped, other_at, tokens_within, placed_tokens, tokens_of};
+ghost use Rattle.sql_text.specs.Tokens.{is_word as word_is, keyword_of, word_token, run, word_at, value_after, digits_token, signed_token, digits_at, signed_at, Plain, Quote, Escape, escape_of, text_from, text_at, up_to, quoted_at, starts as starts_with_byte, rest_of, symbol_at, is_blank as byte_is_blank, comment_end, comment_at, lexeme_at, is_bad as token_is_bad, step_at, placed, Placed, skipped, other_at, tokens_within, placed_tokens, tokens_of, link_tokens_of, dialect_tokens, in_dialect as token_in_dialect, branch_word, scan_word, other_word, link_word};
 ghost use Rattle.sql_text.specs.Parsing.{lefts_of};
 
-use crate::token::{Fixed, Token};
+use crate::token::{Dialect, Fixed, Token};
 use list_types::Text;
 use sql_values::{Name, is_name_text};
 use std::alloc::{AllocError, Global};
@@ -75,6 +75,116 @@ fn keyword(bytes: &[u8]) -> Option<Fixed>
         return Some(Fixed::Where);
     }
     None
+}
+
+/// The keyword that the bytes are in what is asked of a branch.
+fn branch_keyword(bytes: &[u8]) -> Option<Fixed>
+    ensures { result ≡ branch_word bytes.now }
+{
+    if is_word(b"XA", bytes) {
+        return Some(Fixed::Xa);
+    }
+    if is_word(b"START", bytes) {
+        return Some(Fixed::Start);
+    }
+    if is_word(b"END", bytes) {
+        return Some(Fixed::End);
+    }
+    if is_word(b"PREPARE", bytes) {
+        return Some(Fixed::Prepare);
+    }
+    if is_word(b"COMMIT", bytes) {
+        return Some(Fixed::Commit);
+    }
+    if is_word(b"ROLLBACK", bytes) {
+        return Some(Fixed::Rollback);
+    }
+    if is_word(b"RECOVER", bytes) {
+        return Some(Fixed::Recover);
+    }
+    None
+}
+
+/// The keyword that the bytes are at the end of a scan.
+fn scan_keyword(bytes: &[u8]) -> Option<Fixed>
+    ensures { result ≡ scan_word bytes.now }
+{
+    if is_word(b"ORDER", bytes) {
+        return Some(Fixed::Order);
+    }
+    if is_word(b"BY", bytes) {
+        return Some(Fixed::By);
+    }
+    if is_word(b"LIMIT", bytes) {
+        return Some(Fixed::Limit);
+    }
+    if is_word(b"LOCK", bytes) {
+        return Some(Fixed::Lock);
+    }
+    if is_word(b"SHARE", bytes) {
+        return Some(Fixed::Share);
+    }
+    if is_word(b"MODE", bytes) {
+        return Some(Fixed::Mode);
+    }
+    if is_word(b"FOR", bytes) {
+        return Some(Fixed::For);
+    }
+    if is_word(b"UPDATE", bytes) {
+        return Some(Fixed::Update);
+    }
+    None
+}
+
+/// The keyword that the bytes are in a write, or in an aggregate.
+fn other_keyword(bytes: &[u8]) -> Option<Fixed>
+    ensures { result ≡ other_word bytes.now }
+{
+    if is_word(b"REPLACE", bytes) {
+        return Some(Fixed::Replace);
+    }
+    if is_word(b"DELETE", bytes) {
+        return Some(Fixed::Delete);
+    }
+    if is_word(b"COUNT", bytes) {
+        return Some(Fixed::Count);
+    }
+    if is_word(b"SUM", bytes) {
+        return Some(Fixed::Sum);
+    }
+    if is_word(b"MIN", bytes) {
+        return Some(Fixed::Min);
+    }
+    if is_word(b"MAX", bytes) {
+        return Some(Fixed::Max);
+    }
+    None
+}
+
+/// The keyword of link text alone that the bytes are.
+fn link_keyword(bytes: &[u8]) -> Option<Fixed>
+    ensures { result ≡ link_word bytes.now }
+{
+    if let Some(fixed) = branch_keyword(bytes) {
+        return Some(fixed);
+    }
+    if let Some(fixed) = scan_keyword(bytes) {
+        return Some(fixed);
+    }
+    other_keyword(bytes)
+}
+
+/// A token as it stands in a text of this kind.
+fn in_dialect(dialect: Dialect, token: Token) -> Token
+    ensures { result ≡ token_in_dialect dialect token }
+{
+    match (dialect, token) {
+        (Dialect::Links, Token::Bare(name)) => match link_keyword(name.as_str().as_bytes()) {
+            Some(fixed) => Token::Fixed(fixed),
+            None => Token::Bare(name),
+        },
+        (_, token) => token,
+    }
 }
 
 /// The name that a text is, where it is one.
@@ -484,11 +594,12 @@ fn lexeme(alloc: Global, bytes: &[u8]) -> Result<(Option<Token>, &[u8]), AllocEr
 /// One step: adds the token at the front, if one stands there, and answers whether a word or digits stand directly before what is left, and that.
 fn step<'a>(
     alloc: Global,
+    dialect: Dialect,
     out: &mut Tokens,
     touching: bool,
     bytes: &'a [u8],
 ) -> Result<Option<(bool, &'a [u8])>, AllocError>
-    ensures tokens { OnOk result (out.new.tokens.items ≡ out.old.tokens.items ++ map (λ (p : Placed). p.0) (step_at touching bytes.now).0) }
+    ensures tokens { OnOk result (out.new.tokens.items ≡ out.old.tokens.items ++ map (λ (p : Placed). token_in_dialect dialect p.0) (step_at touching bytes.now).0) }
     ensures lefts { OnOk result (out.new.lefts.items ≡ out.old.lefts.items ++ map (λ (p : Placed). p.1) (step_at touching bytes.now).0) }
     ensures rest { IfOk result (λ x. option_map (λ y. (y.0, y.1.now)) x ≡ (step_at touching bytes.now).1) }
 {
@@ -506,7 +617,7 @@ fn step<'a>(
         return Ok(Some((touches, rest)));
     };
     let last = is_bad(&token);
-    out.push(token, left)?;
+    out.push(in_dialect(dialect, token), left)?;
     if last {
         Ok(None)
     } else {
@@ -514,17 +625,17 @@ fn step<'a>(
     }
 }
 
-/// The tokens of a text, up to the first that is none.
-#[tactic(auto, unfolding(crate::specs::Tokens::placed_tokens, crate::specs::Tokens::tokens_of, crate::specs::Parsing::lefts_of))]
-pub fn read_tokens(alloc: Global, text: &[u8]) -> Result<Tokens, AllocError>
-    ensures tokens { IfOk result (λ t. t.tokens.items ≡ tokens_of text.now) }
+/// The tokens of a text of this kind, up to the first that is none.
+#[tactic(auto, unfolding(crate::specs::Tokens::placed_tokens, crate::specs::Parsing::lefts_of))]
+pub fn read_tokens(alloc: Global, dialect: Dialect, text: &[u8]) -> Result<Tokens, AllocError>
+    ensures tokens { IfOk result (λ t. t.tokens.items ≡ dialect_tokens dialect text.now) }
     ensures lefts { IfOk result (λ t. t.lefts.items ≡ lefts_of text.now) }
 {
     let mut out = Tokens::new(alloc);
     let mut touching = false;
     let mut rest = text;
     for _ in 0..text.len() {
-        match step(alloc, &mut out, touching, rest)? {
+        match step(alloc, dialect, &mut out, touching, rest)? {
             None => return Ok(out),
             Some((touches, behind)) => {
                 touching = touches;

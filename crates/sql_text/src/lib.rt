@@ -23,7 +23,7 @@ mod token;
 
 pub use fault::ParseFault;
 pub use link::{AggregateCall, AggregateCalls, Cell, LinkAnswer, LinkRequest, Scan, ScanItems};
-pub use parsing::{MOST_OPENINGS, parse};
+pub use parsing::{MOST_LINK_OPENINGS, MOST_OPENINGS, parse, parse_link};
 pub use printing::{print, push_quoted};
 pub use statement::{Insert, Item, ItemList, Names, Select, SelectItems, Statement, Tab, Tuples};
 pub use token::{Fixed, Token};
