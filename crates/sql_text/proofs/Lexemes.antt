@@ -1,6 +1,6 @@
 -- Names, literals and fixed texts as they are written, and their tokens.
 use Rattle.std.proofs.Common.{◌≡◌, ℕ, ℤ, pos, negsuc, zero, suc, ◌+◌, ◌-◌, ◌*◌, ◌<◌, ◌≤◌, ◌^◌, map, List, [], ◌∷◌, ◌++◌, length, Bool, true, false, cond, Option, Some, None, refl, sym, ap, subst, ◌∙◌, append_assoc, append-nil, arith, codes}
-use Rattle.std.specs.Prelude.{◌==◌, ◌&&◌, ◌||◌, nat_lt, nat_le}
+use Rattle.std.specs.Prelude.{◌==◌, ◌&&◌, ◌||◌, not, nat_lt, nat_le}
 use Rattle.std.specs.List.{list_all, flat_map}
 use Rattle.std.specs.Str.{IsAscii, IsUtf8, all_ascii_digits}
 use Rattle.std.specs.Str.Lossy.{utf8_lossy}
@@ -149,7 +149,7 @@ and_left_false : (b c : Bool) → b ≡ false → (b && c) ≡ false
 and_left_false true c h = absurd cc
 and_left_false false c h = refl
 
-length_later : (a b : List ℕ) → length b ≤ length (a ++ b)
+pub length_later : (a b : List ℕ) → length b ≤ length (a ++ b)
 length_later [] b = omega arith
 length_later (x ∷ a) b = omega (arith, length_later a b)
 
@@ -220,7 +220,23 @@ keyword_at : (w rest : List ℕ) (f : Fixed) → list_all continues_name w ≡ t
 keyword_at w rest f h k s =
     ap (λ (r : List ℕ × List ℕ). (word_token (keyword_of r.0) r.0, r.1)) (word_run w rest h s) ∙ ap (λ (o : Option Fixed). (word_token o w, rest)) k
 
+-- a word that is no keyword before what doesn't go on with it
+pub bare_at : (w rest : List ℕ) → list_all continues_name w ≡ true → keyword_of w ≡ None → is_name w ≡ true → Stops rest → word_at (w ++ rest) ≡ (tokens.Bare w, rest)
+bare_at w rest h k n s =
+    ap (λ (r : List ℕ × List ℕ). (word_token (keyword_of r.0) r.0, r.1)) (word_run w rest h s) ∙ ap (λ (o : Option Fixed). (word_token o w, rest)) k ∙ (rw n refl)
+
 -- PARTS OF A TEXT
+
+-- a token that is no bad one
+abbrev pub is_good : Token → Bool
+is_good t = not (is_bad t)
+
+good_case : (b : Bool) → not b ≡ true → b ≡ false
+good_case true h = absurd cc
+good_case false h = refl
+
+pub good_is : (t : Token) → is_good t ≡ true → is_bad t ≡ false
+good_is t h = good_case (is_bad t) h
 
 -- a change that leaves all but bare names as they are
 pub record Fixes (change : Token → Token) : Type 0 where

@@ -16,3 +16,5 @@ pub mod Lexemes
 pub mod Sound
 pub mod Respelled
 pub mod Printed
+pub mod LinkWords
+pub mod LinkRespelled

@@ -45,10 +45,10 @@ abbrev pub Respells : {X : Type 0} → (List ℕ → List Token → Type 0) → 
 Respells {X} Part A text = (x : X) (ts : List Token) → A x ts → Sounds ts → Told Part A x (text x)
 
 -- the tokens of a part of a sequence are sound
-first_sound : {A B : List Token → Type 0} {ts : List Token} (s : Sequence A B ts) → Sounds ts → Sounds s.front
+pub first_sound : {A B : List Token → Type 0} {ts : List Token} (s : Sequence A B ts) → Sounds ts → Sounds s.front
 first_sound s h = sounds_front s.front s.rest (subst Sounds s.whole h)
 
-second_sound : {A B : List Token → Type 0} {ts : List Token} (s : Sequence A B ts) → Sounds ts → Sounds s.rest
+pub second_sound : {A B : List Token → Type 0} {ts : List Token} (s : Sequence A B ts) → Sounds ts → Sounds s.rest
 second_sound s h = sounds_rest s.front s.rest (subst Sounds s.whole h)
 
 name_case : (t : Token) (n : List ℕ) → name_of t ≡ Some n → Sound t → is_name n ≡ true
@@ -61,14 +61,14 @@ name_case (tokens.Text t) n e h = absurd cc
 name_case tokens.Bad n e h = absurd cc
 
 -- a value and what is made of it
-mapped : {X Y : Type 0} (A : Rule X) (B : X → Rule Y) (x : X) (y : Y) (ts : List Token) → A x ts → B x y [] → (A ▷ B) y ts
+pub mapped : {X Y : Type 0} (A : Rule X) (B : X → Rule Y) (x : X) (y : Y) (ts : List Token) → A x ts → B x y [] → (A ▷ B) y ts
 mapped A B x y ts h k = (x, record { front = ts; rest = []; whole = sym (append-nil ts); first = h; second = k })
 
 -- what is made of a value, and that value
-unmapped : {X Y : Type 0} (A : Rule X) (f : X → Y) (y : Y) (ts : List Token) → (A ▷ λ x. is (f x)) y ts → (x : X) × (y ≡ f x) × A x ts
+pub unmapped : {X Y : Type 0} (A : Rule X) (f : X → Y) (y : Y) (ts : List Token) → (A ▷ λ x. is (f x)) y ts → (x : X) × (y ≡ f x) × A x ts
 unmapped A f y ts (x, s) = (x, s.second.0, subst (A x) (sym (s.whole ∙ ap (λ (l : List Token). s.front ++ l) s.second.1 ∙ append-nil s.front)) s.first)
 
-retold : {X : Type 0} (Part : List ℕ → List Token → Type 0) (A : Rule X) (text : X → List ℕ) (x y : X) → x ≡ y → Told Part A y (text y) → Told Part A x (text x)
+pub retold : {X : Type 0} (Part : List ℕ → List Token → Type 0) (A : Rule X) (text : X → List ℕ) (x y : X) → x ≡ y → Told Part A y (text y) → Told Part A x (text x)
 retold Part A text x y e h = subst (λ z. Told Part A z (text z)) (sym e) h
 
 abbrev bare : List ℕ → ColumnName
@@ -225,7 +225,7 @@ module _ (change : Token → Token) (fixes : lexemes.Fixes change) where
         (suffix_suffix change) (between ++ text x) (flat_map (λ y. between ++ y) (map text xs)) (tokens.Fixed f ∷ a.0) b.0 ((separator_atom change) between (text x) (tokens.Fixed f ∷ []) a.0 p a.2) b.2,
       )
 
-  series_told : {X : Type 0} (f : Fixed) (A : Rule X) (text : X → List ℕ) (between : List ℕ) → (Separator change) between (tokens.Fixed f ∷ []) → Respells (Atom change) A text
+  pub series_told : {X : Type 0} (f : Fixed) (A : Rule X) (text : X → List ℕ) (between : List ℕ) → (Separator change) between (tokens.Fixed f ∷ []) → Respells (Atom change) A text
       → (xs : List X) (ts : List Token) → series f A xs ts → Sounds ts → Told (Atom change) (series f A) xs (joined_text between (map text xs))
   series_told {X} f A text between p told xs ts (x, s) sound =
       let rest = s.second in
@@ -714,7 +714,7 @@ module _ (change : Token → Token) (fixes : lexemes.Fixes change) where
       )
 
   -- at most so many further parts
-  few_told : {X : Type 0} (count : ℕ) (f : Fixed) (A : Rule X) (text : X → List ℕ) (between : List ℕ) → (Separator change) between (tokens.Fixed f ∷ []) → Respells (Atom change) A text
+  pub few_told : {X : Type 0} (count : ℕ) (f : Fixed) (A : Rule X) (text : X → List ℕ) (between : List ℕ) → (Separator change) between (tokens.Fixed f ∷ []) → Respells (Atom change) A text
       → (xs : List X) (ts : List Token) → at_most_further count f A xs ts → Sounds ts → Told (Suffix change) (at_most_further count f A) xs (flat_map (λ y. between ++ y) (map text xs))
   few_told zero f A text between p told xs ts h sound = retold (Suffix change) (at_most_further zero f A) (λ l. flat_map (λ y. between ++ y) (map text l)) xs [] h.0 ([], (refl, refl), (nothing_behind change))
   few_told {X} (suc count) f A text between p told xs ts (inl (rest, e, (x, s))) sound =
@@ -747,7 +747,7 @@ module _ (change : Token → Token) (fixes : lexemes.Fixes change) where
         (atom_suffix change) (item_text x) (flat_map (λ y. codes ", " ++ y) (map item_text u.0)) a.0 b.0 a.2 b.2,
       )
 
-  where_told : (depth : ℕ) → Respells (Suffix change) (where_cond depth) where_text
+  pub where_told : (depth : ℕ) → Respells (Suffix change) (where_cond depth) where_text
   where_told depth c ts (inl (rest, e, h)) sound =
       let inner : Sounds rest = (let k : Sounds (tokens.Fixed Where ∷ rest) = subst Sounds e sound in k.1) in
       let u = unmapped (cond_rule depth) Some c rest h in

@@ -140,6 +140,19 @@ module _ (change : Token → Token) where
     utf8 = IsUtf8-append a b p.utf8 q.utf8;
   }
 
+  pub separator_prefix : (a b : List ℕ) (s t : List Token) → Separator a s → Prefix b t → Separator (a ++ b) (s ++ t)
+  separator_prefix a b s t p q = record {
+    reads = λ touching rest more h. regrouped touching a b rest s t more (p.reads touching (b ++ rest) (t ++ more) (q.reads rest more h));
+    stops = λ rest. stops_again a b rest (p.stops (b ++ rest));
+    utf8 = IsUtf8-append a b p.utf8 q.utf8;
+  }
+
+  pub prefix_prefix : (a b : List ℕ) (s t : List Token) → Prefix a s → Prefix b t → Prefix (a ++ b) (s ++ t)
+  prefix_prefix a b s t p q = record {
+    reads = λ rest more h. regrouped false a b rest s t more (p.reads (b ++ rest) (t ++ more) (q.reads rest more h));
+    utf8 = IsUtf8-append a b p.utf8 q.utf8;
+  }
+
   -- the tokens of a whole text
   pub atom_tokens : (bytes : List ℕ) (ts : List Token) → Atom bytes ts → map (λ (p : Placed). change p.0) (tokens_within (length bytes) false bytes) ≡ ts
   atom_tokens bytes ts p =

@@ -8,3 +8,4 @@ pub mod LinkReading
 pub mod Places
 pub mod Parsing
 pub mod Printing
+pub mod LinkPrinting

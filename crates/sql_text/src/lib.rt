@@ -15,6 +15,7 @@ mod fault;
 mod laws;
 mod lexer;
 mod link;
+mod link_printing;
 mod parsing;
 mod printing;
 mod reading;
@@ -22,7 +23,9 @@ mod statement;
 mod token;
 
 pub use fault::ParseFault;
+pub use laws::{printed_requests_are_read, printed_statements_are_read};
 pub use link::{AggregateCall, AggregateCalls, Cell, LinkAnswer, LinkRequest, Scan, ScanItems};
+pub use link_printing::print_link;
 pub use parsing::{MOST_LINK_OPENINGS, MOST_OPENINGS, parse, parse_link};
 pub use printing::{print, push_quoted};
 pub use statement::{Insert, Item, ItemList, Names, Select, SelectItems, Statement, Tab, Tuples};
