@@ -3,7 +3,7 @@ use Rattle.std.proofs.lemmas.List.{drop_more}
 use Rattle.sql_text.specs.Tokens.{value_after}
 use Rattle.sql_text.specs.Lexing.{cap}
 use Rattle.sql_text.proofs.Bytes.{capped_value}
-use Rattle.sql_text.proofs.lexer.value.Goals as goal
+use Rattle.sql_text.proofs.lexer.digits.value.Goals as goal
 
 pub loop-byte-preserved : goal.loop-byte-preserved
 loop-byte-preserved c =

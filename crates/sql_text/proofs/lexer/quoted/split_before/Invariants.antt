@@ -1,7 +1,7 @@
 use Rattle.std.proofs.Common.{◌≡◌, take, drop}
 use Rattle.sql_text.specs.Tokens.{up_to}
 use Rattle.sql_text.specs.Lexing.{onto_all}
-use Rattle.sql_text.proofs.lexer.split_before.Given as goal
+use Rattle.sql_text.proofs.lexer.quoted.split_before.Given as goal
 
 -- what is passed, and what is found in the rest
 abbrev pub invariant-loop-i : goal.invariant-loop-i

@@ -1,7 +1,7 @@
 use Rattle.std.proofs.Common.{◌≡◌, ◌++◌, take, drop}
 use Rattle.sql_values.specs.Names.{continues_name as may_continue}
 use Rattle.sql_text.specs.Tokens.{run}
-use Rattle.sql_text.proofs.lexer.word_run.Given as goal
+use Rattle.sql_text.proofs.lexer.words.word_run.Given as goal
 
 -- all that is passed is in the run
 abbrev pub invariant-loop-i : goal.invariant-loop-i

@@ -1,7 +1,7 @@
 use Rattle.std.proofs.Common.{◌≡◌, ◌++◌, take, drop}
 use Rattle.std.specs.Char.{is_ascii_digit}
 use Rattle.sql_text.specs.Tokens.{run}
-use Rattle.sql_text.proofs.lexer.digit_run.Given as goal
+use Rattle.sql_text.proofs.lexer.digits.digit_run.Given as goal
 
 -- all that is passed is in the run
 abbrev pub invariant-loop-i : goal.invariant-loop-i

@@ -1,7 +1,7 @@
 use Rattle.std.proofs.Common.{◌≡◌, Some, None, true, cond, ap, ◌∙◌, List, ℕ}
 use Rattle.sql_values.specs.Names.{is_name}
 use Rattle.sql_text.proofs.Bytes.{name_utf8}
-use Rattle.sql_text.proofs.lexer.name.Goals as goal
+use Rattle.sql_text.proofs.lexer.words.name.Goals as goal
 
 pub returns : goal.returns
 returns c =

@@ -1,7 +1,7 @@
 use Rattle.std.proofs.Common.{◌≡◌, ◌≤◌, min, drop}
 use Rattle.sql_text.specs.Tokens.{value_after}
 use Rattle.sql_text.specs.Lexing.{cap}
-use Rattle.sql_text.proofs.lexer.value.Given as goal
+use Rattle.sql_text.proofs.lexer.digits.value.Given as goal
 
 -- the digits that are left make of the value what all of them make
 abbrev pub invariant-loop-byte : goal.invariant-loop-byte

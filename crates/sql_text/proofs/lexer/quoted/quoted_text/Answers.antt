@@ -3,7 +3,7 @@ use Rattle.sql_text.specs.Tokens.{Plain, text_from}
 use Rattle.sql_text.specs.Lexing.{onto_all, piece_at, text_by, Piece}
 use Rattle.std.proofs.Common.{Option}
 use Rattle.sql_text.proofs.Bytes.{text_is, onto_again}
-use Rattle.sql_text.proofs.lexer.quoted_text.Goals as goal
+use Rattle.sql_text.proofs.lexer.quoted.quoted_text.Goals as goal
 
 pub loop-text-preserved : goal.loop-text-preserved
 loop-text-preserved c =

@@ -1,7 +1,7 @@
 use Rattle.std.proofs.Common.{◌≡◌, length}
 use Rattle.sql_text.specs.Tokens.{Plain, text_from}
 use Rattle.sql_text.specs.Lexing.{onto_all}
-use Rattle.sql_text.proofs.lexer.quoted_text.Given as goal
+use Rattle.sql_text.proofs.lexer.quoted.quoted_text.Given as goal
 
 -- what is read, and the text of what is left
 abbrev pub invariant-loop-text : goal.invariant-loop-text
