@@ -14,7 +14,11 @@ pub mod Joined
 pub mod Written
 pub mod Lexemes
 pub mod Sound
+pub mod Told
 pub mod Respelled
+pub mod RespelledTests
+pub mod RespelledConds
+pub mod RespelledStatements
 pub mod Printed
 pub mod LinkWords
 pub mod LinkRespelled

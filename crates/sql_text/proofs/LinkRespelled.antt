@@ -1,6 +1,6 @@
 -- What is printed of a request has tokens that spell it.
-use Rattle.std.proofs.Common.{◌≡◌, ℕ, ℤ, pos, negsuc, zero, suc, ◌<◌, ◌≤◌, ◌^◌, map, List, [], ◌∷◌, ◌++◌, length, Bool, true, false, cond, Option, Some, None, refl, sym, ap, subst, ◌∙◌, append_assoc, append-nil, arith, inl, inr, codes}
-use Rattle.std.specs.Prelude.{◌==◌, nat_lt, nat_le}
+use Rattle.std.proofs.Common.{◌≡◌, ℕ, ℤ, pos, negsuc, zero, suc, ◌<◌, ◌^◌, map, List, [], ◌∷◌, ◌++◌, length, Bool, true, false, cond, Option, Some, None, refl, sym, subst, ◌∙◌, arith, inl, inr, codes}
+use Rattle.std.specs.Prelude.{nat_lt, nat_le}
 use Rattle.std.specs.List.{flat_map}
 use Rattle.std.specs.Str.{IsUtf8}
 use Rattle.std.specs.Fmt.{signed_decimal}
@@ -10,13 +10,10 @@ use Rattle.sql_values.specs.Expressions.{is_big_int, big_int}
 use Rattle.sql_values.specs.declared.value.Value.{Value}
 use Rattle.sql_values.specs.declared.value.Value.TheVariants as values
 use Rattle.sql_values.specs.declared.places.Xid.{Xid}
-use Rattle.sql_values.specs.declared.places.LockMode.{LockMode}
 use Rattle.sql_values.specs.declared.places.LockMode.TheVariants as locks
 use Rattle.sql_values.specs.declared.tree.ColumnName.{ColumnName}
-use Rattle.sql_values.specs.declared.tree.Cond.{Cond}
 use Rattle.sql_text.specs.declared.link.LinkRequest.{LinkRequest}
 use Rattle.sql_text.specs.declared.link.LinkRequest.TheVariants as requests
-use Rattle.sql_text.specs.declared.link.Scan.{Scan}
 use Rattle.sql_text.specs.declared.link.ScanItems.{ScanItems}
 use Rattle.sql_text.specs.declared.link.ScanItems.TheVariants as scanned
 use Rattle.sql_text.specs.declared.link.AggregateCall.{AggregateCall}
@@ -25,16 +22,18 @@ use Rattle.sql_text.specs.declared.token.Fixed.{Fixed}
 use Rattle.sql_text.specs.declared.token.Fixed.TheVariants.{And, Between, From, In, Into, Select, Values, Where, Open, Close, Comma, Star, Semicolon, By, Commit, Count, Delete, End, For, Limit, Lock, Max, Min, Mode, Order, Prepare, Recover, Replace, Rollback, Share, Start, Sum, Update, Xa}
 use Rattle.sql_text.specs.declared.token.Token.{Token}
 use Rattle.sql_text.specs.declared.token.Token.TheVariants as tokens
-use Rattle.sql_text.specs.Rules.{Rule, is, one, Sequence, ◌⊳◌, ◌▷◌, ◌∣◌, series, at_most_further, parenthesized, optional}
+use Rattle.sql_text.specs.Rules.{Rule, is, one, ◌⊳◌, ◌▷◌, ◌∣◌, series, at_most_further, parenthesized, optional}
 use Rattle.sql_text.specs.Tokens.{Placed, as_link, worded, link_word, tokens_of, link_tokens_of, placed_tokens}
-use Rattle.sql_text.specs.Grammar.{name, column, where_cond}
-use Rattle.sql_text.specs.LinkGrammar.{key_of, as_number, value_of, count, count_of, part_of, only_one, format_of, xid, branch, of_column, aggregate, scan_items, order, limit, lock, scan, row, put, keys, delete, request, most_link_openings, IsRequest}
+use Rattle.sql_text.specs.Grammar.{name, column}
+use Rattle.sql_text.specs.LinkGrammar.{key_of, as_number, value_of, count_of, part_of, xid, branch, of_column, aggregate, scan_items, order, limit, lock, scan, row, put, keys, delete, request, most_link_openings, IsRequest}
 use Rattle.sql_text.specs.Printing.{quoted, name_text, joined_text, column_text, where_text}
 use Rattle.sql_text.specs.LinkPrinting.{xid_text, value_text, row_text, call_text, scan_items_text, order_text, limit_text, lock_text, link_printed}
-use Rattle.sql_text.proofs.Written.{Atom, Suffix, Prefix, Separator, prefix_of, closing_of, nothing_behind, atom_suffix, prefix_atom, separator_atom, suffix_suffix, separator_alone, atom_tokens}
+use Rattle.sql_text.proofs.Written.{Atom, Suffix, Prefix, prefix_of, closing_of, nothing_behind, atom_suffix, prefix_atom, separator_atom, suffix_suffix, separator_alone, atom_tokens}
 use Rattle.sql_text.proofs.Lexemes as lexemes
-use Rattle.sql_text.proofs.Sound.{InRange, Sound, Sounds, escapes_utf8, tokens_sound}
-use Rattle.sql_text.proofs.Respelled.{Told, Respells, first_sound, second_sound, mapped, unmapped, retold, name_told, column_told, series_told, few_told, enclosed_told, where_told}
+use Rattle.sql_text.proofs.Sound.{Sound, Sounds, escapes_utf8, tokens_sound}
+use Rattle.sql_text.proofs.Told.{Told, Respells, first_sound, second_sound, mapped, unmapped, retold}
+use Rattle.sql_text.proofs.Respelled.{name_told, column_told, series_told, few_told, enclosed_told}
+use Rattle.sql_text.proofs.RespelledStatements.{where_told}
 use Rattle.sql_text.proofs.LinkWords as words
 use Rattle.sql_text.proofs.LinkWords.{link_fixes}
 

@@ -1,9 +1,8 @@
 -- Each reading function of link text reads its rule.
-use Rattle.std.proofs.Common.{◌≡◌, ℕ, ℤ, pos, negsuc, zero, suc, Bool, true, false, cond, List, [], ◌∷◌, ◌++◌, Option, Some, None, Result, Ok, Err, refl, sym, ap, subst, ◌∙◌, arith, inl, inr}
+use Rattle.std.proofs.Common.{◌≡◌, ℕ, ℤ, pos, Bool, true, false, cond, List, [], ◌∷◌, Some, None, Result, Ok, Err, refl}
 use Rattle.sql_values.specs.declared.value.Value.{Value}
 use Rattle.sql_values.specs.declared.value.Value.TheVariants as values
 use Rattle.sql_values.specs.declared.places.Xid.{Xid}
-use Rattle.sql_values.specs.declared.places.LockMode.{LockMode}
 use Rattle.sql_values.specs.declared.places.LockMode.TheVariants as locks
 use Rattle.sql_values.specs.declared.tree.ColumnName.{ColumnName}
 use Rattle.sql_text.specs.declared.link.LinkRequest.{LinkRequest}
@@ -12,15 +11,14 @@ use Rattle.sql_text.specs.declared.link.ScanItems.{ScanItems}
 use Rattle.sql_text.specs.declared.link.ScanItems.TheVariants as scanned
 use Rattle.sql_text.specs.declared.link.AggregateCall.{AggregateCall}
 use Rattle.sql_text.specs.declared.link.AggregateCall.TheVariants as calls
-use Rattle.sql_text.specs.declared.token.Fixed.{Fixed}
-use Rattle.sql_text.specs.declared.token.Fixed.TheVariants.{And, Between, From, In, Into, Select, Values, Where, Open, Close, Comma, Star, Semicolon, By, Commit, Count, Delete, End, For, Limit, Lock, Max, Min, Mode, Order, Prepare, Recover, Replace, Rollback, Share, Start, Sum, Update, Xa}
+use Rattle.sql_text.specs.declared.token.Fixed.TheVariants.{And, Between, From, In, Into, Select, Values, Where, Comma, Star, Semicolon, By, Commit, Count, Delete, End, For, Limit, Lock, Max, Min, Mode, Order, Prepare, Recover, Replace, Rollback, Share, Start, Sum, Update, Xa}
 use Rattle.sql_text.specs.declared.token.Token.{Token}
 use Rattle.sql_text.specs.declared.token.Token.TheVariants as tokens
 use Rattle.sql_text.specs.declared.fault.Stop.{Stop}
-use Rattle.sql_text.specs.Rules.{Rule, is, one, ◌⊳◌, ◌▷◌, ◌∣◌, series, at_most_further, parenthesized, optional}
-use Rattle.sql_text.specs.Grammar.{name, column, where_cond}
+use Rattle.sql_text.specs.Rules.{Rule, is, one, ◌⊳◌, ◌▷◌, ◌∣◌, series, at_most_further, parenthesized}
+use Rattle.sql_text.specs.Grammar.{column}
 use Rattle.sql_text.specs.LinkGrammar.{key_of, value_of, count_of, part_of, format_of, xid, branch, of_column, aggregate, scan_items, order, limit, lock, scan, row, put, keys, delete, request}
-use Rattle.sql_text.specs.Reading.{◌>>=◌, begins, behind, expect, optional_at, one_at, name_at, column_at, where_at, series_at, further_at, with_front, parenthesized_at}
+use Rattle.sql_text.specs.Reading.{◌>>=◌, begins, expect, optional_at, one_at, column_at, series_at, further_at, with_front}
 use Rattle.sql_text.specs.LinkReading.{xid_at, named_at, behind_xa_at, branch_at, star_at, count_at, of_column_at, aggregate_at, scan_items_at, order_at, limit_at, share_at, update_at, lock_at, scan_at, row_at, put_at, keys_at, del_at, clear_at, which_at, delete_at, request_body_at}
 use Rattle.sql_text.proofs.Fields.{Reads, Rules, kind_of, member, IsField, is_field, one_field}
 use Rattle.sql_text.proofs.Choices.{begins_tells, same_reader, either_field, fixed_or, optional_field}

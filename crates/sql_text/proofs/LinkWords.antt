@@ -1,13 +1,12 @@
 -- Words of link text as they are written, and their tokens.
-use Rattle.std.proofs.Common.{◌≡◌, ℕ, ℤ, List, [], ◌∷◌, ◌++◌, Bool, true, false, Some, None, refl, sym, ap, subst, ◌∙◌, append_assoc, arith, codes}
-use Rattle.std.specs.Prelude.{◌||◌}
+use Rattle.std.proofs.Common.{◌≡◌, ℕ, List, [], ◌∷◌, ◌++◌, true, false, Some, refl, sym, ap, subst, append_assoc, arith, codes}
 use Rattle.sql_values.specs.Names.{continues_name}
 use Rattle.sql_text.specs.declared.token.Fixed.{Fixed}
-use Rattle.sql_text.specs.declared.token.Fixed.TheVariants.{From, In, Into, Open, Close, Star, By, Commit, Count, Delete, End, For, Limit, Lock, Max, Min, Mode, Order, Prepare, Recover, Replace, Rollback, Share, Start, Sum, Update, Xa}
+use Rattle.sql_text.specs.declared.token.Fixed.TheVariants.{From, In, Into, Open, By, Commit, Count, Delete, End, For, Limit, Lock, Max, Min, Mode, Order, Prepare, Recover, Replace, Rollback, Share, Start, Sum, Update, Xa}
 use Rattle.sql_text.specs.declared.token.Token.{Token}
 use Rattle.sql_text.specs.declared.token.Token.TheVariants as tokens
 use Rattle.sql_text.specs.Tokens.{lexeme_at, seen, as_link}
-use Rattle.sql_text.proofs.Written.{Has, has_token, has_blank, Atom, Suffix, Prefix, Separator, prefix_atom, separator_atom, separator_prefix, prefix_prefix, atom_suffix}
+use Rattle.sql_text.proofs.Written.{Has, has_token, has_blank, Atom, Suffix, Prefix, Separator, prefix_atom, separator_atom, separator_prefix, prefix_prefix}
 use Rattle.sql_text.proofs.Lexemes as lexemes
 
 pub link_fixes : lexemes.Fixes as_link

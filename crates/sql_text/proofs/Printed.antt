@@ -1,5 +1,5 @@
 -- What is printed of a statement is a text of it.
-use Rattle.std.proofs.Common.{◌≡◌, ℕ, List, refl, sym, subst, Result, Ok}
+use Rattle.std.proofs.Common.{ℕ, List, refl, sym, subst}
 use Rattle.std.specs.Str.{IsUtf8}
 use Rattle.sql_text.specs.declared.statement.Statement.{Statement}
 use Rattle.sql_text.specs.declared.token.Token.{Token}
@@ -9,7 +9,7 @@ use Rattle.sql_text.specs.Printing.{printed}
 use Rattle.sql_text.proofs.Written.{atom_tokens}
 use Rattle.sql_text.proofs.Lexemes.{Fixes}
 use Rattle.sql_text.proofs.Sound.{tokens_sound}
-use Rattle.sql_text.proofs.Respelled.{statement_told}
+use Rattle.sql_text.proofs.RespelledStatements.{statement_told}
 
 abbrev same : Token → Token
 same t = t

@@ -1,5 +1,5 @@
 -- The tokens of a text have values that have a text: names are names, numbers fit, texts are UTF-8.
-use Rattle.std.proofs.Common.{◌≡◌, ℕ, ℤ, pos, negsuc, neg_ℤ, zero, suc, ◌+◌, ◌-◌, ◌<◌, ◌≤◌, ◌^◌, map, List, [], ◌∷◌, ◌++◌, length, take, drop, slice_index, length-drop, get_or, Bool, true, false, cond, Option, Some, None, refl, sym, ap, subst, ◌∙◌, append_assoc, append-nil, arith, inl, inr}
+use Rattle.std.proofs.Common.{◌≡◌, ℕ, ℤ, pos, negsuc, neg_ℤ, zero, suc, ◌+◌, ◌<◌, ◌≤◌, ◌^◌, map, List, [], ◌∷◌, ◌++◌, length, take, drop, slice_index, length-drop, get_or, Bool, true, false, cond, Option, Some, None, refl, sym, ap, subst, ◌∙◌, append-nil, arith, inl, inr}
 use Rattle.std.specs.Prelude.{◌==◌, ◌&&◌, ◌||◌, nat_lt, nat_le}
 use Rattle.std.specs.Int.{is_in_range}
 use Rattle.std.specs.Option.{unwrap_or}
@@ -18,7 +18,7 @@ use Rattle.sql_text.specs.declared.token.Fixed.{Fixed}
 use Rattle.sql_text.specs.declared.token.Fixed.TheVariants.{Open, Close, Comma, Dot, Star, Semicolon, Equal, NotEqual, Less, AtMost, Greater, AtLeast}
 use Rattle.sql_text.specs.declared.token.Token.{Token}
 use Rattle.sql_text.specs.declared.token.Token.TheVariants as tokens
-use Rattle.sql_text.specs.Tokens.{run, value_after, word_token, keyword_of, word_at, digits_token, signed_token, digits_at, signed_at, Plain, text_from, text_at, up_to, quoted_at, starts, rest_of, symbol_at, is_blank, comment_at, skipped, seen, other_at, lexeme_at, is_bad, Placed, Step, placed, step_at, onward, tokens_within, placed_tokens, tokens_of}
+use Rattle.sql_text.specs.Tokens.{run, value_after, word_token, keyword_of, word_at, digits_token, signed_token, digits_at, signed_at, Plain, text_from, text_at, up_to, quoted_at, starts, rest_of, symbol_at, is_blank, comment_at, skipped, seen, other_at, lexeme_at, Placed, Step, placed, step_at, onward, tokens_within, placed_tokens, tokens_of}
 use Rattle.sql_text.specs.Printing.{escaped}
 use Rattle.sql_text.proofs.Lexemes.{is_plain, plain_utf8}
 

@@ -7,7 +7,6 @@ use Rattle.sql_values.specs.declared.places.LockMode.{LockMode}
 use Rattle.sql_values.specs.declared.places.LockMode.TheVariants as locks
 use Rattle.sql_text.specs.declared.link.LinkRequest.{LinkRequest}
 use Rattle.sql_text.specs.declared.link.LinkRequest.TheVariants as requests
-use Rattle.sql_text.specs.declared.link.Scan.{Scan}
 use Rattle.sql_text.specs.declared.link.ScanItems.{ScanItems}
 use Rattle.sql_text.specs.declared.link.ScanItems.TheVariants as scanned
 use Rattle.sql_text.specs.declared.link.AggregateCall.{AggregateCall}

@@ -1,6 +1,6 @@
 use Rattle.std.proofs.Common.{◌≡◌, ◌-◌}
 use Rattle.sql_text.specs.declared.token.Fixed.TheVariants as fixed
-use Rattle.sql_text.specs.Reading.{further_at, with_front, one_at}
+use Rattle.sql_text.specs.Reading.{further_at, with_front}
 use Rattle.sql_text.specs.LinkReading.{row_at}
 use Rattle.sql_text.proofs.reading.writes.further_rows.Given as goal
 
