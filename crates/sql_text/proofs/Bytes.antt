@@ -8,7 +8,9 @@ use Rattle.std.proofs.lemmas.Str.{IsUtf8-from_ascii}
 use Rattle.std.proofs.lemmas.Str.Ascii.{IsAscii-nil, IsAscii-cons}
 use Rattle.std.proofs.lemmas.Bool.Decides.{nat_tests, leb_tells}
 use Rattle.sql_values.specs.Names.{is_name, begins_name, continues_name}
-use Rattle.sql_text.specs.Tokens.{value_after, digits_token, signed_token, Plain, Quote, Escape, text_from, onto, onto_some, escape_of, starts, rest_of, Placed, Step, step_at, onward, tokens_within}
+use Rattle.sql_text.specs.Tokens.{value_after, digits_token, signed_token, Plain, Quote, Escape, text_from, onto, onto_some, escape_of, starts, rest_of, Placed, Step, step_at, onward, tokens_within, placed_tokens, tokens_of, link_tokens_of, in_dialect, dialect_tokens}
+use Rattle.sql_text.specs.declared.token.Dialect.{Dialect}
+use Rattle.sql_text.specs.declared.token.Dialect.TheVariants.{Statements, Links}
 use Rattle.sql_text.specs.Lexing.{cap, onto_all, Piece, piece_at, escape_at, escaped_piece, text_by}
 use Rattle.sql_text.proofs.Fields.{and_true}
 
@@ -145,3 +147,9 @@ no_step f (Some x) found h e = absurd cc
 pub some_step : {A B : Type 0} (f : A → B) (o : Option A) (x : A) (found : Option B) → option_map f o ≡ found → o ≡ Some x → found ≡ Some (f x)
 some_step f None x found h e = absurd cc
 some_step f (Some y) x found h e = sym h ∙ ap (λ v. Some (f v)) (some_is y x e)
+
+-- the tokens of a text of a kind
+pub in_dialect_is : (dialect : Dialect) (text : List ℕ) → map (λ (p : Placed). in_dialect dialect p.0) (tokens_within (length text) false text) ≡ dialect_tokens dialect text
+unfolding placed_tokens tokens_of link_tokens_of
+in_dialect_is Statements text = refl
+in_dialect_is Links text = refl

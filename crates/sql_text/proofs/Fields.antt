@@ -7,7 +7,7 @@ use Rattle.sql_text.specs.declared.token.Token.{Token}
 use Rattle.sql_text.specs.declared.token.Token.TheVariants as tokens
 use Rattle.sql_text.specs.declared.fault.Stop.{Stop}
 use Rattle.sql_text.specs.Rules.{Rule, is, one, ◌⊳◌, ◌▷◌}
-use Rattle.sql_text.specs.declared.token.Fixed.TheVariants.{And, As, Between, From, In, Insert, Into, Not, Null, Or, Select, Values, Where, Open, Close, Comma, Dot, Star, Semicolon, Equal, NotEqual, Less, AtMost, Greater, AtLeast}
+use Rattle.sql_text.specs.declared.token.Fixed.TheVariants.{And, As, Between, From, In, Insert, Into, Not, Null, Or, Select, Values, Where, Open, Close, Comma, Dot, Star, Semicolon, Equal, NotEqual, Less, AtMost, Greater, AtLeast, By, Commit, Count, Delete, End, For, Limit, Lock, Max, Min, Mode, Order, Prepare, Recover, Replace, Rollback, Share, Start, Sum, Update, Xa}
 use Rattle.sql_text.specs.Places.{is_opening}
 use Rattle.sql_text.specs.Reading.{◌>>=◌, number_of, syntax, value_before, one_at, expect, is_fixed}
 
@@ -277,7 +277,7 @@ pub expected : (f : Fixed) (ts : List Token) → expect f (tokens.Fixed f ∷ ts
 unfolding expect
 expected f ts = let e : (number_of f == number_of f) ≡ true = grind (arith, nat_tests) in rw e refl
 
-pub number_below : (f : Fixed) → number_of f < 25
+pub number_below : (f : Fixed) → number_of f < 46
 number_below And = omega arith
 number_below As = omega arith
 number_below Between = omega arith
@@ -303,6 +303,27 @@ number_below Less = omega arith
 number_below AtMost = omega arith
 number_below Greater = omega arith
 number_below AtLeast = omega arith
+number_below By = omega arith
+number_below Commit = omega arith
+number_below Count = omega arith
+number_below Delete = omega arith
+number_below End = omega arith
+number_below For = omega arith
+number_below Limit = omega arith
+number_below Lock = omega arith
+number_below Max = omega arith
+number_below Min = omega arith
+number_below Mode = omega arith
+number_below Order = omega arith
+number_below Prepare = omega arith
+number_below Recover = omega arith
+number_below Replace = omega arith
+number_below Rollback = omega arith
+number_below Share = omega arith
+number_below Start = omega arith
+number_below Sum = omega arith
+number_below Update = omega arith
+number_below Xa = omega arith
 
 -- what a keyword's number stands for
 named : ℕ → Fixed
@@ -310,7 +331,10 @@ named n =
     if n == 0 then And else (if n == 1 then As else (if n == 2 then Between else (if n == 3 then From else (if n == 4 then In else (if n == 5 then Insert else (if n == 6 then Into
     else (if n == 7 then Not else (if n == 8 then Null else (if n == 9 then Or else (if n == 10 then Select else (if n == 11 then Values else (if n == 12 then Where else (if n == 13 then Open
     else (if n == 14 then Close else (if n == 15 then Comma else (if n == 16 then Dot else (if n == 17 then Star else (if n == 18 then Semicolon else (if n == 19 then Equal else (if n == 20 then NotEqual
-    else (if n == 21 then Less else (if n == 22 then AtMost else (if n == 23 then Greater else AtLeast)))))))))))))))))))))))
+    else (if n == 21 then Less else (if n == 22 then AtMost else (if n == 23 then Greater else (if n == 24 then AtLeast else (if n == 25 then By
+    else (if n == 26 then Commit else (if n == 27 then Count else (if n == 28 then Delete else (if n == 29 then End else (if n == 30 then For else (if n == 31 then Limit else (if n == 32 then Lock else
+    (if n == 33 then Max else (if n == 34 then Min else (if n == 35 then Mode else (if n == 36 then Order else (if n == 37 then Prepare else (if n == 38 then Recover else (if n == 39 then Replace else
+    (if n == 40 then Rollback else (if n == 41 then Share else (if n == 42 then Start else (if n == 43 then Sum else (if n == 44 then Update else Xa))))))))))))))))))))))))))))))))))))))))))))
 
 named_number : (f : Fixed) → named (number_of f) ≡ f
 unfolding named
@@ -339,6 +363,27 @@ named_number Less = refl
 named_number AtMost = refl
 named_number Greater = refl
 named_number AtLeast = refl
+named_number By = refl
+named_number Commit = refl
+named_number Count = refl
+named_number Delete = refl
+named_number End = refl
+named_number For = refl
+named_number Limit = refl
+named_number Lock = refl
+named_number Max = refl
+named_number Min = refl
+named_number Mode = refl
+named_number Order = refl
+named_number Prepare = refl
+named_number Recover = refl
+named_number Replace = refl
+named_number Rollback = refl
+named_number Share = refl
+named_number Start = refl
+named_number Sum = refl
+named_number Update = refl
+named_number Xa = refl
 
 pub is_fixed_is : (f : Fixed) (t : Token) → is_fixed f t ≡ true → t ≡ tokens.Fixed f
 is_fixed_is f (tokens.Fixed g) h =

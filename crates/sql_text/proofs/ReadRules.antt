@@ -14,7 +14,7 @@ use Rattle.sql_text.specs.declared.statement.SelectItems.{SelectItems}
 use Rattle.sql_text.specs.declared.statement.SelectItems.TheVariants as items
 use Rattle.sql_text.specs.declared.statement.Item.{Item}
 use Rattle.sql_text.specs.declared.token.Fixed.{Fixed}
-use Rattle.sql_text.specs.declared.token.Fixed.TheVariants.{And, As, Between, From, In, Insert, Into, Not, Null, Or, Select, Values, Where, Open, Close, Comma, Dot, Star, Semicolon, Equal, NotEqual, Less, AtMost, Greater, AtLeast}
+use Rattle.sql_text.specs.declared.token.Fixed.TheVariants.{And, As, Between, From, In, Insert, Into, Not, Null, Or, Select, Values, Where, Open, Close, Comma, Dot, Star, Semicolon, Equal, NotEqual, Less, AtMost, Greater, AtLeast, By, Commit, Count, Delete, End, For, Limit, Lock, Max, Min, Mode, Order, Prepare, Recover, Replace, Rollback, Share, Start, Sum, Update, Xa}
 use Rattle.sql_text.specs.declared.token.Token.{Token}
 use Rattle.sql_text.specs.declared.token.Token.TheVariants as tokens
 use Rattle.sql_text.specs.declared.fault.Stop.{Stop}
@@ -28,17 +28,17 @@ use Rattle.sql_text.proofs.Nested.{zero_field, suc_field, parenthesized_field, f
 
 -- ---- the same, with what is known of a field left to its type
 
-both : {X Y : Type 0} {A : Rules X} {a : Reads X} {B : X → Rules Y} {b : X → Reads Y} {depth : ℕ} {empty_a empty_b : Bool} {first_a further_a first_b further_b : List ℕ}
+pub both : {X Y : Type 0} {A : Rules X} {a : Reads X} {B : X → Rules Y} {b : X → Reads Y} {depth : ℕ} {empty_a empty_b : Bool} {first_a further_a first_b further_b : List ℕ}
     → IsField A depth a empty_a first_a further_a → ((x : X) → IsField (B x) depth (b x) empty_b first_b further_b) → apart first_b further_a ≡ true
     → IsField (λ n. A n ▷ λ x. B x n) depth (λ ts. a ts >>= λ p. b p.0 p.1) (empty_a && empty_b) (first_a ++ cond empty_a first_b []) (further_b ++ cond empty_b further_a [])
 both {X} {Y} {A} {a} {B} {b} {depth} {empty_a} {empty_b} {first_a} {further_a} {first_b} {further_b} fa fb away = then_field A a B b depth empty_a empty_b first_a further_a first_b further_b fa fb away
 
-behind_fixed : {X : Type 0} (f : Fixed) {A : Rules X} {depth : ℕ} {read : Reads X} {empty : Bool} {first further : List ℕ} → IsField A depth read empty first further
+pub behind_fixed : {X : Type 0} (f : Fixed) {A : Rules X} {depth : ℕ} {read : Reads X} {empty : Bool} {first further : List ℕ} → IsField A depth read empty first further
     → IsField (λ n. f ⊳ A n) depth (λ ts. expect f ts >>= read) false (number_of f ∷ []) further
 behind_fixed f {A} {depth} {read} {empty} {first} {further} field = fixed_field f A depth read empty first further field
 
 -- these kinds are among those
-abbrev subset : List ℕ → List ℕ → Bool
+abbrev pub subset : List ℕ → List ℕ → Bool
 subset [] t = true
 subset (x ∷ s) t = member x t && subset s t
 
@@ -66,7 +66,7 @@ clear_subset s t [] h e = tt
 clear_subset s t (c ∷ ts) h e = not_among (kind_of c) s t h e
 
 -- with these kinds, of which there may be more
-known_as : {X : Type 0} {A : Rules X} {depth : ℕ} {read : Reads X} {empty : Bool} {first further : List ℕ} (wide_first wide_further : List ℕ) → subset first wide_first ≡ true → subset further wide_further ≡ true
+pub known_as : {X : Type 0} {A : Rules X} {depth : ℕ} {read : Reads X} {empty : Bool} {first further : List ℕ} (wide_first wide_further : List ℕ) → subset first wide_first ≡ true → subset further wide_further ≡ true
     → IsField A depth read empty first further → IsField A depth read empty wide_first wide_further
 known_as {X} {A} {depth} {read} {empty} {first} {further} wide_first wide_further h k field = record {
   took = field.took;
@@ -88,7 +88,7 @@ name_covers (tokens.Signed n) x h = absurd cc
 name_covers (tokens.Text t) x h = absurd cc
 name_covers tokens.Bad x h = absurd cc
 
-name_field : (depth : ℕ) → IsField (λ _. name) depth name_at false (100 ∷ []) []
+pub name_field : (depth : ℕ) → IsField (λ _. name) depth name_at false (100 ∷ []) []
 unfolding name_at
 name_field depth = one_field name_of (100 ∷ []) depth (record { cover = name_covers; token = tokens.Bare (97 ∷ []); example = 97 ∷ []; known = refl })
 
@@ -104,7 +104,7 @@ head_covers tokens.Bad x h = absurd cc
 head_field : (depth : ℕ) → IsField (λ _. one head_of) depth (one_at head_of) false (100 ∷ []) []
 head_field depth = one_field head_of (100 ∷ []) depth (record { cover = head_covers; token = tokens.Quoted (97 ∷ []); example = (false, 97 ∷ []); known = refl })
 
-abbrev literal_kinds : List ℕ
+abbrev pub literal_kinds : List ℕ
 literal_kinds = 101 ∷ 102 ∷ 103 ∷ 8 ∷ []
 
 literal_tells_fixed : (f : Fixed) → is_some (literal_of (tokens.Fixed f)) ≡ member (number_of f) literal_kinds
@@ -133,6 +133,27 @@ literal_tells_fixed Less = refl
 literal_tells_fixed AtMost = refl
 literal_tells_fixed Greater = refl
 literal_tells_fixed AtLeast = refl
+literal_tells_fixed By = refl
+literal_tells_fixed Commit = refl
+literal_tells_fixed Count = refl
+literal_tells_fixed Delete = refl
+literal_tells_fixed End = refl
+literal_tells_fixed For = refl
+literal_tells_fixed Limit = refl
+literal_tells_fixed Lock = refl
+literal_tells_fixed Max = refl
+literal_tells_fixed Min = refl
+literal_tells_fixed Mode = refl
+literal_tells_fixed Order = refl
+literal_tells_fixed Prepare = refl
+literal_tells_fixed Recover = refl
+literal_tells_fixed Replace = refl
+literal_tells_fixed Rollback = refl
+literal_tells_fixed Share = refl
+literal_tells_fixed Start = refl
+literal_tells_fixed Sum = refl
+literal_tells_fixed Update = refl
+literal_tells_fixed Xa = refl
 
 literal_head : (t : Token) (ts : List Token) → stands literal_of (t ∷ ts) ≡ member (kind_of t) literal_kinds
 literal_head (tokens.Fixed f) ts = literal_tells_fixed f
@@ -172,6 +193,27 @@ name_head_fixed Less = refl
 name_head_fixed AtMost = refl
 name_head_fixed Greater = refl
 name_head_fixed AtLeast = refl
+name_head_fixed By = refl
+name_head_fixed Commit = refl
+name_head_fixed Count = refl
+name_head_fixed Delete = refl
+name_head_fixed End = refl
+name_head_fixed For = refl
+name_head_fixed Limit = refl
+name_head_fixed Lock = refl
+name_head_fixed Max = refl
+name_head_fixed Min = refl
+name_head_fixed Mode = refl
+name_head_fixed Order = refl
+name_head_fixed Prepare = refl
+name_head_fixed Recover = refl
+name_head_fixed Replace = refl
+name_head_fixed Rollback = refl
+name_head_fixed Share = refl
+name_head_fixed Start = refl
+name_head_fixed Sum = refl
+name_head_fixed Update = refl
+name_head_fixed Xa = refl
 
 name_head : (t : Token) (ts : List Token) → stands name_of (t ∷ ts) ≡ member (kind_of t) (100 ∷ [])
 name_head (tokens.Fixed f) ts = name_head_fixed f
@@ -214,6 +256,27 @@ comparison_tells_fixed Less = refl
 comparison_tells_fixed AtMost = refl
 comparison_tells_fixed Greater = refl
 comparison_tells_fixed AtLeast = refl
+comparison_tells_fixed By = refl
+comparison_tells_fixed Commit = refl
+comparison_tells_fixed Count = refl
+comparison_tells_fixed Delete = refl
+comparison_tells_fixed End = refl
+comparison_tells_fixed For = refl
+comparison_tells_fixed Limit = refl
+comparison_tells_fixed Lock = refl
+comparison_tells_fixed Max = refl
+comparison_tells_fixed Min = refl
+comparison_tells_fixed Mode = refl
+comparison_tells_fixed Order = refl
+comparison_tells_fixed Prepare = refl
+comparison_tells_fixed Recover = refl
+comparison_tells_fixed Replace = refl
+comparison_tells_fixed Rollback = refl
+comparison_tells_fixed Share = refl
+comparison_tells_fixed Start = refl
+comparison_tells_fixed Sum = refl
+comparison_tells_fixed Update = refl
+comparison_tells_fixed Xa = refl
 
 comparison_head : (t : Token) (ts : List Token) → stands comparison_of (t ∷ ts) ≡ member (kind_of t) comparison_kinds
 comparison_head (tokens.Fixed f) ts = comparison_tells_fixed f
@@ -333,7 +396,7 @@ from_column : (c : ColumnName) (ts : List Token) → column c ts → first_colum
 from_column c ts (inl (n, s)) = (n, record { front = s.front; rest = s.rest; whole = s.whole; first = s.first; second = inl s.second })
 from_column c ts (inr (n, s)) = (n, record { front = s.front; rest = s.rest; whole = s.whole; first = s.first; second = inr s.second })
 
-column_field : (depth : ℕ) → IsField (λ _. column) depth column_at false (100 ∷ []) (16 ∷ [])
+pub column_field : (depth : ℕ) → IsField (λ _. column) depth column_at false (100 ∷ []) (16 ∷ [])
 unfolding column_at
 column_field depth =
     same_rule (λ _. first_column) (λ _. column) depth column_at false (100 ∷ []) (16 ∷ []) (λ _. to_column) (λ _. from_column)
@@ -360,7 +423,7 @@ literal_list_field depth = parenthesized_field (series Comma literal) depth (ser
 
 -- ---- tests
 
-abbrev operand_kinds : List ℕ
+abbrev pub operand_kinds : List ℕ
 operand_kinds = 100 ∷ literal_kinds
 
 operand_field : (depth : ℕ) → IsField (λ _. operand) depth operand_at false operand_kinds (16 ∷ [])
@@ -509,22 +572,22 @@ unfolding neg
 some_neg zero = some_compared zero
 some_neg (suc n) = let s = some_compared (suc n) in record { value = s.value; text = s.text; spells = inr (inr s.spells) }
 
-abbrev neg_kinds : List ℕ
+abbrev pub neg_kinds : List ℕ
 neg_kinds = 7 ∷ 13 ∷ operand_kinds
 
-conj_field : (depth : ℕ) → IsField neg depth (neg_at depth) false neg_kinds (16 ∷ []) → IsField (λ n. conj_over (neg n)) depth (conj_by (neg_at depth)) false neg_kinds (0 ∷ 16 ∷ [])
+pub conj_field : (depth : ℕ) → IsField neg depth (neg_at depth) false neg_kinds (16 ∷ []) → IsField (λ n. conj_over (neg n)) depth (conj_by (neg_at depth)) false neg_kinds (0 ∷ 16 ∷ [])
 conj_field depth field = known_as neg_kinds (0 ∷ 16 ∷ []) refl refl
     (both (series_field And neg (neg_at depth) depth neg_kinds (16 ∷ []) field refl) (λ parts. is_field (joined conds.All parts) depth) refl)
 
-cond_over_field : (depth : ℕ) → IsField neg depth (neg_at depth) false neg_kinds (16 ∷ []) → IsField (λ n. cond_over (neg n)) depth (cond_by (neg_at depth)) false neg_kinds (9 ∷ 0 ∷ 16 ∷ [])
+pub cond_over_field : (depth : ℕ) → IsField neg depth (neg_at depth) false neg_kinds (16 ∷ []) → IsField (λ n. cond_over (neg n)) depth (cond_by (neg_at depth)) false neg_kinds (9 ∷ 0 ∷ 16 ∷ [])
 cond_over_field depth field = known_as neg_kinds (9 ∷ 0 ∷ 16 ∷ []) refl refl
     (both (series_field Or (λ n. conj_over (neg n)) (conj_by (neg_at depth)) depth neg_kinds (0 ∷ 16 ∷ []) (conj_field depth field) refl) (λ parts. is_field (joined conds.Any parts) depth) refl)
 
 -- what stands behind NOT and behind an opening parenthesis
-abbrev negated : Rules Cond
+abbrev pub negated : Rules Cond
 negated n = neg n ▷ λ part. is (conds.Not part)
 
-abbrev enclosed : Rules Cond
+abbrev pub enclosed : Rules Cond
 enclosed n = cond_over (neg n) ▷ λ part. Close ⊳ is part
 
 abbrev negated_at : ℕ → Reads Cond
@@ -558,17 +621,17 @@ some_enclosed : (n : ℕ) → Some_text (enclosed n)
 some_enclosed n = let s = some_cond n in record { value = s.value; text = s.text ++ (tokens.Fixed Close ∷ []); spells = (s.value, record { front = s.text; rest = tokens.Fixed Close ∷ []; whole = refl; first = s.spells; second = ([], refl, (refl, refl)) }) }
 
 -- the rule, without its cases
-abbrev any_neg : Rules Cond
+abbrev pub any_neg : Rules Cond
 any_neg n = opens Not negated n ∣ opens Open enclosed n ∣ comparison n
 
-to_neg : (n : ℕ) (c : Cond) (ts : List Token) → any_neg n c ts → neg n c ts
+pub to_neg : (n : ℕ) (c : Cond) (ts : List Token) → any_neg n c ts → neg n c ts
 unfolding neg
 to_neg zero c ts (inl h) = absurd h
 to_neg zero c ts (inr (inl h)) = absurd h
 to_neg zero c ts (inr (inr h)) = h
 to_neg (suc n) c ts h = h
 
-from_neg : (n : ℕ) (c : Cond) (ts : List Token) → neg n c ts → any_neg n c ts
+pub from_neg : (n : ℕ) (c : Cond) (ts : List Token) → neg n c ts → any_neg n c ts
 unfolding neg
 from_neg zero c ts h = inr (inr h)
 from_neg (suc n) c ts h = h
@@ -606,7 +669,7 @@ suc_neg depth ts =
     opened_is Not depth (negated_at depth) ts (cond (begins Open ts) (open_at Open (suc depth) ts >>= closed_by (neg_at depth)) (comparison_at (suc depth) ts))
     ∙ ap (cond (begins Not ts) (negated_at depth (behind ts))) (opened_is Open depth (closed_by (neg_at depth)) ts (comparison_at (suc depth) ts))
 
-neg_field : (depth : ℕ) → IsField neg depth (neg_at depth) false neg_kinds (16 ∷ [])
+pub neg_field : (depth : ℕ) → IsField neg depth (neg_at depth) false neg_kinds (16 ∷ [])
 neg_field zero =
     same_reader neg zero (λ ts. cond (begins Not ts) (open_at Not zero ts >>= negated_at zero) (cond (begins Open ts) (open_at Open zero ts >>= closed_by (neg_at zero)) (comparison_at zero ts))) (neg_at zero) false neg_kinds (16 ∷ [])
     (any_field zero (λ ts. open_at Not zero ts >>= negated_at zero) (λ ts. open_at Open zero ts >>= closed_by (neg_at zero))
@@ -695,7 +758,7 @@ unfolding tab_at
 tab_field depth = known_as (100 ∷ []) (1 ∷ 100 ∷ 16 ∷ []) refl refl
     (both (table_field depth) (λ t. both (alias_field depth) (λ a. is_field (record { table = t; alias = a }) depth) refl) refl)
 
-where_field : (depth : ℕ) → IsField where_cond depth (where_at depth) true (12 ∷ []) (12 ∷ 9 ∷ 0 ∷ 16 ∷ [])
+pub where_field : (depth : ℕ) → IsField where_cond depth (where_at depth) true (12 ∷ []) (12 ∷ 9 ∷ 0 ∷ 16 ∷ [])
 unfolding where_at
 where_field depth = known_as (12 ∷ []) (12 ∷ 9 ∷ 0 ∷ 16 ∷ []) refl refl
     (fixed_or Where (λ n. cond_rule n ▷ λ c. is (Some c)) (λ ts. cond_at depth ts >>= λ c. Ok (Some c.0, c.1)) (λ _. is None) (λ ts. Ok (None, ts)) depth false true neg_kinds (9 ∷ 0 ∷ 16 ∷ []) [] []

@@ -1,135 +1,50 @@
--- Reading all of a text's tokens.
-use Rattle.std.proofs.Common.{◌≡◌, ℕ, suc, ◌<◌, Bool, false, List, [], ◌∷◌, ◌++◌, length, Result, Ok, Err, refl, sym, ap, subst, ◌∙◌, append_assoc, append-nil, arith, inl, inr}
+-- A text is parsed as a statement.
+use Rattle.std.proofs.Common.{◌≡◌, ℕ, List, [], ◌∷◌, Result, Ok, Err, ◌⊎◌}
+use Rattle.std.specs.Prelude.{IfOk, IfErr}
+use Rattle.std.specs.Str.{IsUtf8}
 use Rattle.sql_text.specs.declared.statement.Statement.{Statement}
-use Rattle.sql_text.specs.declared.token.Fixed.TheVariants.{Semicolon}
-use Rattle.sql_text.specs.declared.token.Token.{Token}
 use Rattle.sql_text.specs.declared.fault.Stop.{Stop}
-use Rattle.sql_text.specs.Grammar.{statement}
-use Rattle.sql_text.specs.Reading.{◌>>=◌, body_at, optional_at, ended, statement_at}
-use Rattle.sql_text.specs.Places.{Begins, Allowed, IsFirstBad}
-use Rattle.sql_text.proofs.Fields.{Reads, Near, Reach, Begun, stop_at, bind_ok, bind_err}
+use Rattle.sql_text.specs.declared.fault.ParseFault.{ParseFault}
+use Rattle.sql_text.specs.declared.fault.ParseFault.TheVariants.{NoMemory}
+use Rattle.sql_text.specs.Tokens.{tokens_of}
+use Rattle.sql_text.specs.Grammar.{statement, most_openings, IsStatement}
+use Rattle.sql_text.specs.Reading.{body_at, statement_at}
+use Rattle.sql_text.specs.Places.{IsFirstBad}
+use Rattle.sql_text.specs.Parsing.{parsed, IsParsed, IsNoStatement}
+use Rattle.sql_text.proofs.Parses as parses
 use Rattle.sql_text.proofs.ReadRules.{whole_field}
+use Rattle.sql_text.proofs.Wholes as wholes
 
-abbrev with_end : Statement → Bool × List Token → Result (Statement × List Token) Stop
-with_end s e = Ok (s, e.1)
+abbrev firsts : List ℕ
+firsts = 5 ∷ 10 ∷ []
 
-abbrev to_end : Statement × List Token → Result (Statement × List Token) Stop
-to_end s = optional_at Semicolon s.1 >>= with_end s.0
+abbrev furthers : List ℕ
+furthers = 18 ∷ 15 ∷ 12 ∷ 9 ∷ 0 ∷ 1 ∷ 100 ∷ 16 ∷ []
 
-abbrev whole_at : ℕ → Reads Statement
-whole_at depth ts = body_at depth ts >>= to_end
-
-abbrev pair_ended : Statement × List Token → Result Statement Stop
-pair_ended p = ended p.0 p.1
-
-abbrev end_of : Statement × List Token → Result Statement Stop
-end_of s = optional_at Semicolon s.1 >>= λ e. ended s.0 e.1
-
-end_is : (s : Statement) (r : Result (Bool × List Token) Stop) → (r >>= λ e. ended s e.1) ≡ (r >>= with_end s >>= pair_ended)
-end_is s (Ok e) = refl
-end_is s (Err stop) = refl
-
-whole_is : (r : Result (Statement × List Token) Stop) → (r >>= end_of) ≡ (r >>= to_end >>= pair_ended)
-whole_is (Ok s) = end_is s.0 (optional_at Semicolon s.1)
-whole_is (Err stop) = refl
-
-statement_is : (depth : ℕ) (ts : List Token) → statement_at depth ts ≡ (whole_at depth ts >>= pair_ended)
+is_read : (text : List ℕ) (s : Statement) → statement_at most_openings (tokens_of text) ≡ Ok s → IsStatement (tokens_of text) s
 unfolding statement_at
-statement_is depth ts = whole_is (body_at depth ts)
+is_read text s h = wholes.read_found statement body_at firsts furthers whole_field most_openings (tokens_of text) s h
 
-ended_ok : (p : Statement × List Token) (s : Statement) → pair_ended p ≡ Ok s → (p.0 ≡ s) × (p.1 ≡ [])
-ended_ok (r, []) s e = (cc, refl)
-ended_ok (r, t ∷ ts) s e = absurd cc
+reads : (text : List ℕ) (s : Statement) → IsStatement (tokens_of text) s → statement_at most_openings (tokens_of text) ≡ Ok s
+unfolding statement_at
+reads text s h = wholes.read_again statement body_at firsts furthers whole_field most_openings s (tokens_of text) h
 
-ended_err : (p : Statement × List Token) (stop : Stop) → pair_ended p ≡ Err stop → (b : Token) × (old : List Token) × (p.1 ≡ b ∷ old) × (stop ≡ stop_at false (suc (length old)))
-ended_err (r, []) stop e = absurd cc
-ended_err (r, t ∷ ts) stop e = (t, ts, refl, cc)
+stops : (text : List ℕ) (stop : Stop) → statement_at most_openings (tokens_of text) ≡ Err stop → IsFirstBad statement most_openings stop.deep (tokens_of text) stop.left
+unfolding statement_at
+stops text stop h = wholes.read_bad statement body_at firsts furthers whole_field most_openings (tokens_of text) stop h
 
--- what is read is a statement
-pub read_found : (depth : ℕ) (ts : List Token) (s : Statement) → statement_at depth ts ≡ Ok s → statement depth s ts
-read_found depth ts s e =
-    let p = bind_ok (whole_at depth ts) pair_ended s (sym (statement_is depth ts) ∙ e) in
-    let q = ended_ok p.0 s p.2 in
-    let t = (whole_field depth).took ts p.0.0 p.0.1 p.1 in
-    let all : t.front ≡ ts = sym (t.split ∙ ap (λ (l : List Token). t.front ++ l) q.1 ∙ append-nil t.front) in
-    subst (statement depth s) all (subst (λ v. statement depth v t.front) q.0 (t.spells depth (omega arith)))
+pub found : (text : List ℕ) (r : Result Statement ParseFault) → IsParsed r (parsed text) → IfOk r (λ s. IsUtf8 text × IsStatement (tokens_of text) s)
+unfolding parsed
+found text r h = parses.found statement most_openings (tokens_of text) (statement_at most_openings (tokens_of text)) text (is_read text) (reads text) (stops text) r h
 
-near_ended : (depth deeper : ℕ) (s : Statement) (r : Result (Statement × List Token) Stop) → Reach depth deeper s [] r → Near depth deeper s (r >>= pair_ended)
-near_ended depth deeper s (Ok p) h = subst (λ (q : Statement × List Token). Near depth deeper s (pair_ended q)) (sym h) refl
-near_ended depth deeper s (Err stop) h = h
+pub only : (text : List ℕ) (r : Result Statement ParseFault) (s : Statement) → IsParsed r (parsed text) → IsUtf8 text → IsStatement (tokens_of text) s → (r ≡ Err NoMemory) ⊎ (r ≡ Ok s)
+unfolding parsed
+only text r s h u i = parses.only statement most_openings (tokens_of text) (statement_at most_openings (tokens_of text)) text (is_read text) (reads text) (stops text) r s h u i
 
-whole_near : (depth deeper : ℕ) (s : Statement) (ts : List Token) → statement deeper s ts → Reach depth deeper s [] (whole_at depth ts)
-whole_near depth deeper s ts h = subst (λ (l : List Token). Reach depth deeper s [] (whole_at depth l)) (append-nil ts) ((whole_field depth).again deeper s ts [] h tt)
+pub refused : (text : List ℕ) (r : Result Statement ParseFault) → IsParsed r (parsed text) → IfErr r (λ e. IsNoStatement text e)
+unfolding parsed
+refused text r h = parses.refused statement most_openings (tokens_of text) (statement_at most_openings (tokens_of text)) text (is_read text) (reads text) (stops text) r h
 
-read_near : (depth deeper : ℕ) (s : Statement) (ts : List Token) → statement deeper s ts → Near depth deeper s (statement_at depth ts)
-read_near depth deeper s ts h = subst (Near depth deeper s) (sym (statement_is depth ts)) (near_ended depth deeper s (whole_at depth ts) (whole_near depth deeper s ts h))
-
--- a statement is read
-pub read_again : (depth : ℕ) (s : Statement) (ts : List Token) → statement depth s ts → statement_at depth ts ≡ Ok s
-read_again depth s ts h =
-    (elim (statement_at depth ts) as (λ r. Near depth depth s r → r ≡ Ok s) [
-      | Ok t ↦ λ n. ap Ok n
-      | Err stop ↦ λ n. absurd (let l : depth < depth = n.1 in omega arith)
-    ]) (read_near depth depth s ts h)
-
--- no statement is read where reading stops
-never : (most : ℕ) (stop : Stop) (depth : ℕ) (s : Statement) (r : Result (Statement × List Token) Stop) → Allowed stop.deep most depth → r ≡ Err stop → Reach most depth s [] r → ⊥
-never most stop depth s r allowed e n =
-    let m : Near {Y = Statement × List Token} most depth (s, []) (Err stop) = subst (Near {Y = Statement × List Token} most depth (s, [])) e n in
-    let same : depth ≡ most = subst (λ d. Allowed d most depth) m.0 allowed in
-    let less : most < depth = m.1 in
-    omega arith
-
-begun_begins : (most : ℕ) (front : List Token) → Begun statement most front → Begins (suc most) front
-begun_begins most front b = record { value = b.value; more = b.more; spells = b.spells }
-
-stuck_bad : (most : ℕ) (ts : List Token) (stop : Stop) → whole_at most ts ≡ Err stop → IsFirstBad most stop.deep ts stop.left
-stuck_bad most ts stop e =
-    let s = (whole_field most).stuck ts stop e in
-    record {
-      before = s.before;
-      after = s.after;
-      split = s.split;
-      left_is = s.left;
-      begins = begun_begins most s.before s.begins;
-      bad = λ b old depth k allowed begun.
-          let stays = s.stays b old begun.more k in
-          never most (stop_at stop.deep (suc (length begun.more))) depth begun.value (whole_at most (s.before ++ (b ∷ begun.more))) allowed stays
-          (whole_near most depth begun.value (s.before ++ (b ∷ begun.more)) (subst (statement depth begun.value) (append_assoc s.before (b ∷ []) begun.more) begun.spells));
-      none = λ v depth allowed h. never most stop depth v (whole_at most ts) allowed e (whole_near most depth v ts h);
-      opens = λ d. let q = s.deep d in (q.0, q.1, q.2, q.3, begun_begins most (s.before ++ (q.0 ∷ [])) q.4);
-    }
-
--- more stands behind what is read
-behind_bad : (most : ℕ) (ts : List Token) (v : Statement) (b : Token) (old : List Token) → whole_at most ts ≡ Ok (v, b ∷ old) → IsFirstBad most false ts (suc (length old))
-behind_bad most ts v b old e =
-    let t = (whole_field most).took ts v (b ∷ old) e in
-    let further : (new : List Token) (s : Statement) (depth : ℕ) → statement depth s (t.front ++ (b ∷ new)) → ⊥ = λ new s depth h.
-    let n = whole_near most depth s (t.front ++ (b ∷ new)) h in
-    let m : Near {Y = Statement × List Token} most depth (s, []) (Ok (v, b ∷ new)) = subst (Near {Y = Statement × List Token} most depth (s, [])) (t.looks b old new refl) n in
-    let f : b ∷ new ≡ [] = ap (λ (p : Statement × List Token). p.1) m in
-    cc in
-    record {
-      before = t.front;
-      after = b ∷ old;
-      split = t.split;
-      left_is = refl;
-      begins = record { value = v; more = []; spells = subst (statement (suc most) v) (sym (append-nil t.front)) (t.spells (suc most) (omega arith)) };
-      bad = λ c new depth k allowed begun.
-          let same : b ≡ c = cc in
-          further begun.more begun.value depth
-          (subst (λ d. statement depth begun.value (t.front ++ (d ∷ begun.more))) (sym same) (subst (statement depth begun.value) (append_assoc t.front (c ∷ []) begun.more) begun.spells));
-      none = λ s depth allowed h. further old s depth (subst (statement depth s) t.split h);
-      opens = λ d. absurd cc;
-    }
-
--- where reading stops, the first token stands that can't stand there
-pub read_bad : (most : ℕ) (ts : List Token) (stop : Stop) → statement_at most ts ≡ Err stop → IsFirstBad most stop.deep ts stop.left
-read_bad most ts stop e =
-    elim (bind_err (whole_at most ts) pair_ended stop (sym (statement_is most ts) ∙ e)) [
-      | inl h ↦ stuck_bad most ts stop h
-      | inr h ↦
-          let k = ended_err h.0 stop h.2 in
-          let read : whole_at most ts ≡ Ok (h.0.0, k.0 ∷ k.1) = h.1 ∙ ap (λ (l : List Token). Ok (h.0.0, l)) k.2 in
-          subst (λ (s : Stop). IsFirstBad most s.deep ts s.left) (sym k.3) (behind_bad most ts h.0.0 k.0 k.1 read)
-    ]
+pub again : (text : List ℕ) (s : Statement) → IsUtf8 text → IsStatement (tokens_of text) s → parsed text ≡ Ok s
+unfolding parsed
+again text s u i = parses.answered_again statement most_openings (tokens_of text) (statement_at most_openings (tokens_of text)) text (is_read text) (reads text) (stops text) s u i

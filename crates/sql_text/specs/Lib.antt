@@ -3,6 +3,9 @@ pub mod Lexing
 pub mod Rules
 pub mod Grammar
 pub mod Reading
+pub mod LinkGrammar
+pub mod LinkReading
 pub mod Places
 pub mod Parsing
 pub mod Printing
+pub mod LinkPrinting

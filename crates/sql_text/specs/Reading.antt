@@ -13,7 +13,7 @@ use Rattle.sql_text.specs.declared.statement.SelectItems.TheVariants as items
 use Rattle.sql_text.specs.declared.statement.Item.{Item}
 use Rattle.sql_text.specs.declared.statement.Tab.{Tab}
 use Rattle.sql_text.specs.declared.token.Fixed.{Fixed}
-use Rattle.sql_text.specs.declared.token.Fixed.TheVariants.{And, As, Between, From, In, Insert, Into, Not, Null, Or, Select, Values, Where, Open, Close, Comma, Dot, Star, Semicolon, Equal, NotEqual, Less, AtMost, Greater, AtLeast}
+use Rattle.sql_text.specs.declared.token.Fixed.TheVariants.{And, As, Between, From, In, Insert, Into, Not, Null, Or, Select, Values, Where, Open, Close, Comma, Dot, Star, Semicolon, Equal, NotEqual, Less, AtMost, Greater, AtLeast, By, Commit, Count, Delete, End, For, Limit, Lock, Max, Min, Mode, Order, Prepare, Recover, Replace, Rollback, Share, Start, Sum, Update, Xa}
 use Rattle.sql_text.specs.declared.token.Token.{Token}
 use Rattle.sql_text.specs.declared.token.Token.TheVariants as tokens
 use Rattle.sql_text.specs.declared.fault.Stop.{Stop}
@@ -71,6 +71,27 @@ number_of Less = 21
 number_of AtMost = 22
 number_of Greater = 23
 number_of AtLeast = 24
+number_of By = 25
+number_of Commit = 26
+number_of Count = 27
+number_of Delete = 28
+number_of End = 29
+number_of For = 30
+number_of Limit = 31
+number_of Lock = 32
+number_of Max = 33
+number_of Min = 34
+number_of Mode = 35
+number_of Order = 36
+number_of Prepare = 37
+number_of Recover = 38
+number_of Replace = 39
+number_of Rollback = 40
+number_of Share = 41
+number_of Start = 42
+number_of Sum = 43
+number_of Update = 44
+number_of Xa = 45
 
 abbrev pub is_fixed : Fixed → Token → Bool
 is_fixed f (tokens.Fixed g) = number_of g == number_of f
@@ -244,9 +265,10 @@ select_at depth ts =
 unfoldable pub body_at : ℕ → List Token → Result (Statement × List Token) Stop
 body_at depth ts = if begins Insert ts then insert_at depth ts else select_at depth ts
 
-abbrev pub ended : Statement → List Token → Result Statement Stop
-ended s [] = Ok s
-ended s (t ∷ ts) = syntax (t ∷ ts)
+-- what was read, where nothing stands behind it
+abbrev pub ended : {X : Type 0} → X → List Token → Result X Stop
+ended x [] = Ok x
+ended x (t ∷ ts) = syntax (t ∷ ts)
 
 -- all of the tokens
 unfoldable pub statement_at : ℕ → List Token → Result Statement Stop

@@ -5,7 +5,9 @@ use Rattle.std.specs.Char.{is_ascii_digit, to_ascii_uppercase}
 use Rattle.std.specs.Str.Lossy.{utf8_lossy}
 use Rattle.sql_values.specs.Names.{is_name, begins_name, continues_name}
 use Rattle.sql_text.specs.declared.token.Fixed.{Fixed}
-use Rattle.sql_text.specs.declared.token.Fixed.TheVariants.{And, As, Between, From, In, Insert, Into, Not, Null, Or, Select, Values, Where, Open, Close, Comma, Dot, Star, Semicolon, Equal, NotEqual, Less, AtMost, Greater, AtLeast}
+use Rattle.sql_text.specs.declared.token.Fixed.TheVariants.{And, As, Between, From, In, Insert, Into, Not, Null, Or, Select, Values, Where, Open, Close, Comma, Dot, Star, Semicolon, Equal, NotEqual, Less, AtMost, Greater, AtLeast, By, Commit, Count, Delete, End, For, Limit, Lock, Max, Min, Mode, Order, Prepare, Recover, Replace, Rollback, Share, Start, Sum, Update, Xa}
+use Rattle.sql_text.specs.declared.token.Dialect.{Dialect}
+use Rattle.sql_text.specs.declared.token.Dialect.TheVariants.{Statements, Links}
 use Rattle.sql_text.specs.declared.token.Token.{Token}
 use Rattle.sql_text.specs.declared.token.Token.TheVariants as tokens
 
@@ -73,10 +75,10 @@ signed_at minus (b ∷ bytes) =
 -- TEXTS
 
 -- what has been read of a text: plain bytes, or a quote that may close it, or a backslash
-pub data Mode : Type 0 where
-  Plain : Mode
-  Quote : Mode
-  Escape : Mode
+pub data TextMode : Type 0 where
+  Plain : TextMode
+  Quote : TextMode
+  Escape : TextMode
 
 -- the byte that a backslash and this byte stand for
 abbrev pub escape_of : ℕ → Option ℕ
@@ -102,7 +104,7 @@ onto_some None r = None
 onto_some (Some b) r = onto b r
 
 -- the text up to the quote that closes it, which isn't doubled and stands behind no backslash, and what stands behind that
-abbrev pub text_from : ℕ → Mode → List ℕ → Option (List ℕ × List ℕ)
+abbrev pub text_from : ℕ → TextMode → List ℕ → Option (List ℕ × List ℕ)
 text_from quote Plain [] = None
 text_from quote Plain (b ∷ bytes) =
     if b == quote then text_from quote Quote bytes
@@ -235,3 +237,72 @@ placed_tokens text = tokens_within (length text) false text
 -- without their places
 unfoldable pub tokens_of : List ℕ → List Token
 tokens_of text = map (λ (p : Placed). p.0) (placed_tokens text)
+
+-- LINK TEXT
+
+-- the keywords of what is asked of a branch
+abbrev pub branch_word : List ℕ → Option Fixed
+branch_word bytes =
+    if is_word (codes "XA") bytes then Some Xa
+    else (if is_word (codes "START") bytes then Some Start
+    else (if is_word (codes "END") bytes then Some End
+    else (if is_word (codes "PREPARE") bytes then Some Prepare
+    else (if is_word (codes "COMMIT") bytes then Some Commit
+    else (if is_word (codes "ROLLBACK") bytes then Some Rollback
+    else (if is_word (codes "RECOVER") bytes then Some Recover
+    else None))))))
+
+-- those of the end of a scan
+abbrev pub scan_word : List ℕ → Option Fixed
+scan_word bytes =
+    if is_word (codes "ORDER") bytes then Some Order
+    else (if is_word (codes "BY") bytes then Some By
+    else (if is_word (codes "LIMIT") bytes then Some Limit
+    else (if is_word (codes "LOCK") bytes then Some Lock
+    else (if is_word (codes "SHARE") bytes then Some Share
+    else (if is_word (codes "MODE") bytes then Some Mode
+    else (if is_word (codes "FOR") bytes then Some For
+    else (if is_word (codes "UPDATE") bytes then Some Update
+    else None)))))))
+
+-- those of what is written, and of aggregates
+abbrev pub other_word : List ℕ → Option Fixed
+other_word bytes =
+    if is_word (codes "REPLACE") bytes then Some Replace
+    else (if is_word (codes "DELETE") bytes then Some Delete
+    else (if is_word (codes "COUNT") bytes then Some Count
+    else (if is_word (codes "SUM") bytes then Some Sum
+    else (if is_word (codes "MIN") bytes then Some Min
+    else (if is_word (codes "MAX") bytes then Some Max
+    else None)))))
+
+abbrev pub first_word : Option Fixed → Option Fixed → Option Fixed
+first_word None other = other
+first_word (Some f) other = Some f
+
+-- the keywords of link text alone
+abbrev pub link_word : List ℕ → Option Fixed
+link_word bytes = first_word (branch_word bytes) (first_word (scan_word bytes) (other_word bytes))
+
+abbrev pub worded : Option Fixed → List ℕ → Token
+worded None n = tokens.Bare n
+worded (Some f) n = tokens.Fixed f
+
+-- a token as it stands in link text, where more words are keywords
+abbrev pub as_link : Token → Token
+as_link (tokens.Bare n) = worded (link_word n) n
+as_link t = t
+
+-- the tokens of a link text
+unfoldable pub link_tokens_of : List ℕ → List Token
+link_tokens_of text = map (λ (p : Placed). as_link p.0) (placed_tokens text)
+
+-- a token as it stands in a text of this kind
+abbrev pub in_dialect : Dialect → Token → Token
+in_dialect Statements t = t
+in_dialect Links t = as_link t
+
+-- the tokens of a text of this kind
+abbrev pub dialect_tokens : Dialect → List ℕ → List Token
+dialect_tokens Statements text = tokens_of text
+dialect_tokens Links text = link_tokens_of text

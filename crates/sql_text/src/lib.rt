@@ -1,19 +1,27 @@
-//! The text of statements: [`parse`] reads one, [`print`] writes the canonical one. [`LinkRequest`] and [`LinkAnswer`] are what goes between a front and a
-//! backend.
+//! The text of statements and of link text: [`parse`] reads a statement of a client and [`print`] writes its canonical text; [`parse_link`] and
+//! [`print_link`] do the same of a [`LinkRequest`], what a front asks a backend. [`LinkAnswer`] is what that answers.
 //!
 //! A text is read in two layers. Bytes are tokens by `specs/Tokens`: words, names in backquotes, digits, texts and symbols, with blanks and comments between
-//! them, up to the first that is no token. Tokens are a statement by `specs/Grammar`, a relation made rule by rule, apart from the parser. INSERT has an
-//! optional list of columns and rows of literals; SELECT has `*` or at most 900 columns with aliases, one table, and a condition.
+//! them, up to the first that is no token. Tokens are a statement by `specs/Grammar`, or a request by `specs/LinkGrammar`, relations made rule by rule, apart
+//! from the parser. INSERT has an optional list of columns and rows of literals; SELECT has `*` or at most 900 columns with aliases, one table, and a
+//! condition. The ten requests are five of a branch and XA RECOVER, a scan, rows that are put, and keys that go, by list or between two. The words of link
+//! text that no statement has, as XA or ORDER, are keywords there alone, and names in statements.
 //!
 //! `parse` answers a statement exactly where the bytes are UTF-8 and their tokens are one, with at most 64 openings (parentheses and NOTs) inside one
-//! another. Else it tells the first fault: the first byte of the first token that no statement with the same earlier tokens has there, of the first
-//! opening too many, or of the first bytes that aren't UTF-8, whichever comes first, or the text's length where that ends too early.
+//! another; in link text there may be 65. Else it tells the first fault: the first byte of the first token that no statement with the same earlier tokens has
+//! there, of the first opening too many, or of the first bytes that aren't UTF-8, whichever comes first, or the text's length where that ends too early.
+//! Definitions give each text in quotes a value by replacing wrong bytes. That changes no literal that is answered: an escape stands for an ASCII byte, so
+//! what stands in quotes in UTF-8 is UTF-8.
+//!
+//! What is printed of a statement or a request that has a text is read again ([`printed_statements_are_read`], [`printed_requests_are_read`]).
 #![tactic(auto)]
 
 mod cursor;
 mod fault;
+mod laws;
 mod lexer;
 mod link;
+mod link_printing;
 mod parsing;
 mod printing;
 mod reading;
@@ -21,8 +29,10 @@ mod statement;
 mod token;
 
 pub use fault::ParseFault;
-pub use link::{Cell, LinkAnswer, LinkRequest, Scan, ScanItems};
-pub use parsing::{MOST_OPENINGS, parse};
+pub use laws::{printed_requests_are_read, printed_statements_are_read};
+pub use link::{AggregateCall, AggregateCalls, Cell, LinkAnswer, LinkRequest, Scan, ScanItems};
+pub use link_printing::print_link;
+pub use parsing::{MOST_LINK_OPENINGS, MOST_OPENINGS, parse, parse_link};
 pub use printing::{print, push_quoted};
 pub use statement::{Insert, Item, ItemList, Names, Select, SelectItems, Statement, Tab, Tuples};
 pub use token::{Fixed, Token};

@@ -1,5 +1,5 @@
 use list_types::{Listed, Text};
-use sql_values::{Cond, Keys, LockMode, Name, Rows, Xid, Xids};
+use sql_values::{ColumnName, Cond, Keys, LockMode, Name, Rows, Xid, Xids};
 
 /// What a front asks a backend.
 #[derive(Debug, Drop)]
@@ -38,24 +38,42 @@ pub enum LinkRequest {
     },
 }
 
-/// The rows of a table for which a condition holds, in the order of a column, at most so many, locked so.
+/// What is asked of the rows of a table for which a condition holds, in the order of a column, at most so many, locked so.
 #[derive(Debug, Drop)]
 pub struct Scan {
     pub table: Name,
     pub items: ScanItems,
     pub cond: Option<Cond>,
-    /// The key column's name; there where the items are all columns.
+    /// The key column's name, there exactly where the items are all columns.
     pub order: Option<Name>,
     pub limit: Option<u64>,
     pub lock: LockMode,
 }
 
-/// What a scan asks of each row.
-#[derive(Clone, Copy, Debug, PartialEq, Eq)]
+/// What a scan asks of the rows.
+#[derive(Clone, Debug, PartialEq, Eq, Drop)]
 pub enum ScanItems {
-    /// All columns.
+    /// All columns of each row (`*`).
     All,
+    /// These aggregates over all of the rows, in order.
+    Aggregates(AggregateCalls),
 }
+
+/// A call of an aggregate function.
+#[derive(Clone, Debug, PartialEq, Eq, Drop)]
+pub enum AggregateCall {
+    /// The number of rows (`COUNT(*)`).
+    Count,
+    /// The sum of a column.
+    Sum(ColumnName),
+    /// The least value of a column.
+    Min(ColumnName),
+    /// The greatest value of a column.
+    Max(ColumnName),
+}
+
+/// Calls of aggregate functions, in order.
+pub type AggregateCalls = Listed<AggregateCall>;
 
 /// A cell of an answer, NULL or a text.
 pub type Cell = Option<Text>;

@@ -80,7 +80,7 @@ fn push_literals(alloc: Global, out: &mut Vec<u8>, literals: &[Literal]) -> Resu
 }
 
 /// Adds a name in backquotes.
-fn push_name(out: &mut Vec<u8>, name: &Name) -> Result<(), AllocError>
+pub fn push_name(out: &mut Vec<u8>, name: &Name) -> Result<(), AllocError>
     ensures { OnOk result (out.new.items ≡ out.old.items ++ name_text name.now) }
 {
     out.extend_from_slice(b"`")?;
@@ -100,7 +100,7 @@ fn push_qualifier(out: &mut Vec<u8>, table: &Option<Name>) -> Result<(), AllocEr
 }
 
 /// Adds a column.
-fn push_column(out: &mut Vec<u8>, column: &ColumnName) -> Result<(), AllocError>
+pub fn push_column(out: &mut Vec<u8>, column: &ColumnName) -> Result<(), AllocError>
     ensures { OnOk result (out.new.items ≡ out.old.items ++ column_text column.now) }
 {
     push_qualifier(out, &column.table)?;
@@ -320,7 +320,7 @@ fn push_item_list(out: &mut Vec<u8>, items: &[Item]) -> Result<(), AllocError>
 }
 
 /// Adds WHERE and a condition, or nothing.
-fn push_where(alloc: Global, out: &mut Vec<u8>, cond: &Option<Cond>) -> Result<(), AllocError>
+pub fn push_where(alloc: Global, out: &mut Vec<u8>, cond: &Option<Cond>) -> Result<(), AllocError>
     ensures { OnOk result (out.new.items ≡ out.old.items ++ where_text cond.now) }
 {
     let Some(cond) = cond else {

@@ -47,7 +47,7 @@ fn enclosed(rt: &HostRuntime, times: usize, inside: &[u8]) -> Result<(u8, u64), 
 
 #[test]
 fn statements_and_faults(rt: HostRuntime) -> Result<(), Fail> {
-    let cases: [(&[u8], u8, u64); 24] = [
+    let cases: [(&[u8], u8, u64); 25] = [
         (b"SELECT * FROM t", 0, 0),
         (
             b" select `a` as b,t.c from spider.t u where not a=1 or b in ('x',\"y\"\"\\n\") ; ",
@@ -88,6 +88,7 @@ fn statements_and_faults(rt: HostRuntime) -> Result<(), Fail> {
         (b"SELECT a FROM Spider.t", 1, 20),
         (b"SELECT a FROM `spider`.t", 1, 22),
         (b"SELECT a FROM spider", 0, 0),
+        (b"SELECT xa, order start FROM limit AS lock", 0, 0),
     ];
     for (text, kind, place) in cases {
         assert_eq!(rt; outcome(&rt, text), (kind, place), "{text:?}");
@@ -163,5 +164,103 @@ fn canonical_texts(rt: HostRuntime) -> Result<(), Fail> {
     for (text, expected) in cases {
         assert!(rt; prints_as(&rt, text, expected)?, "{text:?}");
     }
+    Ok(())
+}
+
+// A request is 0, a syntax error 1, too deep 2, with the place.
+fn link_outcome(rt: &HostRuntime, text: &[u8]) -> (u8, u64) {
+    match parse_link(rt.alloc(), text) {
+        Ok(_) => (0, 0),
+        Err(ParseFault::Syntax { place }) => (1, place),
+        Err(ParseFault::Deep { place }) => (2, place),
+        Err(ParseFault::NoMemory) => (3, 0),
+    }
+}
+
+fn link_enclosed(rt: &HostRuntime, times: usize) -> Result<(u8, u64), Fail> {
+    let mut text = Vec::new(rt.alloc());
+    text.extend_from_slice(b"SELECT * FROM t WHERE ")?;
+    add_times(&mut text, b"(", times)?;
+    text.extend_from_slice(b"a = 1")?;
+    add_times(&mut text, b")", times)?;
+    text.extend_from_slice(b" ORDER BY a FOR UPDATE")?;
+    Ok(link_outcome(rt, text.as_slice()))
+}
+
+#[test]
+fn link_faults(rt: HostRuntime) -> Result<(), Fail> {
+    let cases: [(&[u8], u8, u64); 9] = [
+        (b"", 1, 0),
+        (b"XA START 'a','b',2", 1, 17),
+        (b"XA RECOVER; XA", 1, 12),
+        (b"SELECT * FROM t LOCK IN SHARE MODE", 1, 16),
+        (b"SELECT COUNT(*) FROM t ORDER BY k FOR UPDATE", 1, 23),
+        (
+            b"SELECT COUNT(*) FROM t LIMIT 18446744073709551616 FOR UPDATE",
+            1,
+            29,
+        ),
+        (b"SELECT * FROM order ORDER BY k FOR UPDATE", 1, 14),
+        (b"REPLACE INTO t VALUES (NULL)", 1, 23),
+        (b"DELETE FROM t WHERE k IN (9223372036854775808)", 1, 26),
+    ];
+    for (text, kind, place) in cases {
+        assert_eq!(rt; link_outcome(&rt, text), (kind, place), "{text:?}");
+    }
+    assert_eq!(rt; link_enclosed(&rt, 65)?, (0, 0));
+    assert_eq!(rt; link_enclosed(&rt, 66)?, (2, 87));
+    Ok(())
+}
+
+// The canonical text of a request, or nothing where it is refused.
+fn link_canonical(rt: &HostRuntime, text: &[u8]) -> Result<Bytes, Fail> {
+    match parse_link(rt.alloc(), text) {
+        Ok(request) => Ok(print_link(rt.alloc(), &request)?),
+        Err(_) => Ok(Bytes::new(rt.alloc())),
+    }
+}
+
+fn link_prints_as(rt: &HostRuntime, text: &[u8], expected: &[u8]) -> Result<bool, Fail> {
+    Ok(link_canonical(rt, text)?.as_slice() == expected)
+}
+
+#[test]
+fn requests_as_they_are_written(rt: HostRuntime) -> Result<(), Fail> {
+    let cases: [&[u8]; 12] = [
+        b"XA START '1.2.3','s1',1",
+        b"XA END '1.2.3','s1',1",
+        b"XA PREPARE '1.2.3','s1',1",
+        b"XA COMMIT '1.2.3','s1',1",
+        b"XA ROLLBACK '1.2.3','s1',1",
+        b"XA RECOVER",
+        b"SELECT * FROM `t` WHERE `k` > 5 ORDER BY `k` LIMIT 1000 LOCK IN SHARE MODE",
+        b"SELECT * FROM `t` ORDER BY `k` FOR UPDATE",
+        b"SELECT COUNT(*), SUM(`v`), MIN(`v`), MAX(`v`) FROM `t` WHERE `v` IN (1,2) FOR UPDATE",
+        b"REPLACE INTO `t` VALUES (1,'a'),(-2,'b''c')",
+        b"DELETE FROM `t` WHERE `k` IN (3,-4)",
+        b"DELETE FROM `t` WHERE `k` BETWEEN -9223372036854775808 AND 9223372036854775807",
+    ];
+    for text in cases {
+        assert!(rt; link_prints_as(&rt, text, text)?, "{text:?}");
+    }
+    Ok(())
+}
+
+#[test]
+fn requests_with_blanks(rt: HostRuntime) -> Result<(), Fail> {
+    assert!(rt;
+        link_prints_as(
+            &rt,
+            b"xa  commit /* c */'a' ,\"b\" , 1 ;",
+            b"XA COMMIT 'a','b',1"
+        )?
+    );
+    assert!(rt;
+        link_prints_as(
+            &rt,
+            b"select count ( * ),sum(t.v) from t lock in share mode",
+            b"SELECT COUNT(*), SUM(`t`.`v`) FROM `t` LOCK IN SHARE MODE"
+        )?
+    );
     Ok(())
 }

@@ -1,7 +1,7 @@
 use list_types::Text;
 use sql_values::Name;
 
-/// A keyword or a symbol.
+/// A keyword or a symbol. The words from `By` to `Xa` are keywords of link text alone.
 #[derive(Clone, Copy, Debug, PartialEq, Eq)]
 pub enum Fixed {
     And,
@@ -17,6 +17,27 @@ pub enum Fixed {
     Select,
     Values,
     Where,
+    By,
+    Commit,
+    Count,
+    Delete,
+    End,
+    For,
+    Limit,
+    Lock,
+    Max,
+    Min,
+    Mode,
+    Order,
+    Prepare,
+    Recover,
+    Replace,
+    Rollback,
+    Share,
+    Start,
+    Sum,
+    Update,
+    Xa,
     /// `(`
     Open,
     /// `)`
@@ -60,4 +81,13 @@ pub enum Token {
     Text(Text),
     /// What is no token. Nothing behind it is looked at.
     Bad,
+}
+
+/// Which words of a text are keywords.
+#[derive(Clone, Copy, Debug, PartialEq, Eq)]
+pub enum Dialect {
+    /// Those of statements.
+    Statements,
+    /// Those of statements, and the others of link text.
+    Links,
 }

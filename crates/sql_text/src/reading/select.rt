@@ -77,7 +77,7 @@ fn tab(tokens: &[Token]) -> Result<(Tab, &[Token]), ReadError>
 
 /// WHERE and its condition, or none.
 #[tactic(auto, unfolding(crate::specs::Reading::where_at))]
-fn where_cond(
+pub fn where_cond(
     alloc: Global,
     depth: u32,
     tokens: &[Token],

@@ -1,4 +1,4 @@
-use Rattle.sql_text.proofs.Parses.{found, only, refused}
+use Rattle.sql_text.proofs.Statements.{found, only, refused}
 use Rattle.sql_text.proofs.parsing.parse.Goals as goal
 
 pub returns-clause-found : goal.returns-clause-found

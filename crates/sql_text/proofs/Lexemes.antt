@@ -1,0 +1,419 @@
+-- Names, literals and fixed texts as they are written, and their tokens.
+use Rattle.std.proofs.Common.{◌≡◌, ℕ, ℤ, pos, negsuc, suc, ◌<◌, ◌≤◌, ◌^◌, List, [], ◌∷◌, ◌++◌, length, Bool, true, false, cond, Option, Some, None, refl, sym, ap, subst, ◌∙◌, append_assoc, arith, codes}
+use Rattle.std.specs.Prelude.{◌==◌, ◌&&◌, ◌||◌, not, nat_lt, nat_le}
+use Rattle.std.specs.List.{list_all, flat_map}
+use Rattle.std.specs.Str.{IsAscii, IsUtf8, all_ascii_digits}
+use Rattle.std.specs.Char.{is_ascii_digit}
+use Rattle.std.specs.Fmt.{decimal, signed_decimal}
+use Rattle.std.proofs.lemmas.Str.{IsUtf8-append, IsUtf8-from_ascii, utf8_lossy-IsUtf8}
+use Rattle.std.proofs.lemmas.Str.Ascii.{IsAscii-nil, IsAscii-cons}
+use Rattle.std.proofs.lemmas.Str.Parse.{IsNumeralModel, numerals_by_fold}
+use Rattle.std.proofs.lemmas.Fmt.{decimal_is_IsNumeral_wide, IsAscii-decimal_wide}
+use Rattle.std.proofs.lemmas.Bool.Decides.{nat_tests}
+use Rattle.std.proofs.Common.{rules}
+use Rattle.sql_values.specs.Names.{is_name, begins_name, continues_name}
+use Rattle.sql_text.specs.declared.token.Fixed.{Fixed}
+use Rattle.sql_text.specs.declared.token.Fixed.TheVariants.{And, As, Between, From, In, Insert, Into, Not, Null, Or, Select, Values, Where, Open, Close, Comma, Dot, Star, Equal, NotEqual, Less, AtMost, Greater, AtLeast}
+use Rattle.sql_values.specs.declared.tree.Comparison.{Comparison}
+use Rattle.sql_values.specs.declared.tree.Comparison.TheVariants as comparisons
+use Rattle.sql_text.specs.Grammar.{comparison_of}
+use Rattle.sql_text.specs.declared.token.Token.{Token}
+use Rattle.sql_text.specs.declared.token.Token.TheVariants as tokens
+use Rattle.sql_text.specs.Tokens.{run, value_after, digits_token, signed_token, Plain, onto, text_from, up_to, lexeme_at, is_bad, is_blank, starts, rest_of, comment_at, skipped, seen, word_at, word_token, keyword_of, digits_at, other_at}
+use Rattle.sql_text.specs.Printing.{escaped, quoted, name_text, comparison_text}
+use Rattle.sql_text.proofs.Fields.{and_true}
+use Rattle.sql_text.proofs.Bytes.{name_utf8}
+use Rattle.sql_text.proofs.Written.{Has, has_token, has_symbol, has_blank, Stops, Atom, Suffix, Prefix, Separator}
+
+-- NAMES
+
+-- a byte of a name is no backquote
+no_backquote : (b : ℕ) → continues_name b ≡ true → (b == 96) ≡ false
+no_backquote b h = grind (arith, nat_tests)
+
+up_to_end : (n rest : List ℕ) → list_all continues_name n ≡ true → up_to 96 (n ++ (96 ∷ rest)) ≡ Some (n, rest)
+up_to_end [] rest h = refl
+up_to_end (b ∷ n) rest h =
+    let p = and_true (continues_name b) (list_all continues_name n) h in
+    let other : (b == 96) ≡ false = no_backquote b p.0 in
+    rw other (ap (onto b) (up_to_end n rest p.1))
+
+begins_continues : (b : ℕ) → begins_name b ≡ true → continues_name b ≡ true
+begins_continues b h = grind (arith, nat_tests)
+
+both_true : (b c : Bool) → b ≡ true → c ≡ true → (b && c) ≡ true
+both_true true c h k = k
+both_true false c h k = absurd cc
+
+name_continues : (n : List ℕ) → is_name n ≡ true → list_all continues_name n ≡ true
+name_continues [] h = absurd cc
+name_continues (b ∷ n) h =
+    let p = and_true (begins_name b) (nat_lt (length n) 64 && list_all continues_name n) h in
+    let q = and_true (nat_lt (length n) 64) (list_all continues_name n) p.1 in
+    both_true (continues_name b) (list_all continues_name n) (begins_continues b p.0) q.1
+
+quoted_name_at : (n rest : List ℕ) → is_name n ≡ true → lexeme_at (96 ∷ (n ++ (96 ∷ rest))) ≡ (Some (tokens.Quoted n), rest)
+quoted_name_at n rest h = rw (up_to_end n rest (name_continues n h), h) refl
+
+length_behind : (a b : List ℕ) (c : ℕ) → length b ≤ length (a ++ (c ∷ b))
+length_behind [] b c = omega arith
+length_behind (x ∷ a) b c = omega (arith, length_behind a b c)
+
+ascii_utf8_one : (b : ℕ) → b < 128 → IsUtf8 (b ∷ [])
+ascii_utf8_one b h = IsUtf8-from_ascii (b ∷ []) (IsAscii-cons b [] h IsAscii-nil)
+
+-- bytes between two others, which are below 128, as text
+enclosed_utf8 : (a b : ℕ) (bytes : List ℕ) → a < 128 → b < 128 → IsUtf8 bytes → IsUtf8 (a ∷ (bytes ++ (b ∷ [])))
+enclosed_utf8 a b bytes p q h = IsUtf8-append (a ∷ []) (bytes ++ (b ∷ [])) (ascii_utf8_one a p) (IsUtf8-append bytes (b ∷ []) h (ascii_utf8_one b q))
+
+-- TEXTS
+
+-- what is read of a byte as it is written
+escaped_case : (b : ℕ) (bytes : List ℕ) (p0 p10 p13 p26 p39 p92 : Bool) → (b == 0) ≡ p0 → (b == 10) ≡ p10 → (b == 13) ≡ p13 → (b == 26) ≡ p26 → (b == 39) ≡ p39 → (b == 92) ≡ p92
+    → text_from 39 Plain (cond p0 (92 ∷ 48 ∷ []) (cond p10 (92 ∷ 110 ∷ []) (cond p13 (92 ∷ 114 ∷ []) (cond p26 (92 ∷ 90 ∷ []) (cond p39 (39 ∷ 39 ∷ []) (cond p92 (92 ∷ 92 ∷ []) (b ∷ [])))))) ++ bytes) ≡ onto b (text_from 39 Plain bytes)
+escaped_case b bytes true p10 p13 p26 p39 p92 e0 e10 e13 e26 e39 e92 = let e : b ≡ 0 = grind (arith, nat_tests) in ap (λ c. onto c (text_from 39 Plain bytes)) (sym e)
+escaped_case b bytes false true p13 p26 p39 p92 e0 e10 e13 e26 e39 e92 = let e : b ≡ 10 = grind (arith, nat_tests) in ap (λ c. onto c (text_from 39 Plain bytes)) (sym e)
+escaped_case b bytes false false true p26 p39 p92 e0 e10 e13 e26 e39 e92 = let e : b ≡ 13 = grind (arith, nat_tests) in ap (λ c. onto c (text_from 39 Plain bytes)) (sym e)
+escaped_case b bytes false false false true p39 p92 e0 e10 e13 e26 e39 e92 = let e : b ≡ 26 = grind (arith, nat_tests) in ap (λ c. onto c (text_from 39 Plain bytes)) (sym e)
+escaped_case b bytes false false false false true p92 e0 e10 e13 e26 e39 e92 = let e : b ≡ 39 = grind (arith, nat_tests) in ap (λ c. onto c (text_from 39 Plain bytes)) (sym e)
+escaped_case b bytes false false false false false true e0 e10 e13 e26 e39 e92 = let e : b ≡ 92 = grind (arith, nat_tests) in ap (λ c. onto c (text_from 39 Plain bytes)) (sym e)
+escaped_case b bytes false false false false false false e0 e10 e13 e26 e39 e92 = rw (e39, e92) refl
+
+escaped_is : (b : ℕ) (bytes : List ℕ) → text_from 39 Plain (escaped b ++ bytes) ≡ onto b (text_from 39 Plain bytes)
+escaped_is b bytes = escaped_case b bytes (b == 0) (b == 10) (b == 13) (b == 26) (b == 39) (b == 92) refl refl refl refl refl refl
+
+or_false_right : (b c : Bool) → (b || c) ≡ false → c ≡ false
+or_false_right true c h = absurd cc
+or_false_right false c h = h
+
+closed_text : (rest : List ℕ) → Stops rest → text_from 39 Plain (39 ∷ rest) ≡ Some ([], rest)
+closed_text [] h = refl
+closed_text (c ∷ rest) h = let other : (c == 39) ≡ false = or_false_right (continues_name c) (c == 39) h in rw other refl
+
+text_read : (t rest : List ℕ) → Stops rest → text_from 39 Plain (flat_map escaped t ++ (39 ∷ rest)) ≡ Some (t, rest)
+text_read [] rest h = closed_text rest h
+text_read (b ∷ t) rest h =
+    ap (text_from 39 Plain) (append_assoc (escaped b) (flat_map escaped t) (39 ∷ rest))
+    ∙ escaped_is b (flat_map escaped t ++ (39 ∷ rest))
+    ∙ ap (onto b) (text_read t rest h)
+
+-- NUMBERS
+
+-- the digits of a number
+own : IsNumeralModel (λ ds. all_ascii_digits ds ≡ true) (value_after 0)
+own = numerals_by_fold (λ ds. all_ascii_digits ds ≡ true) (search rules) value_after (search rules)
+
+no_digit : (c : ℕ) → (continues_name c || c == 39) ≡ false → is_ascii_digit c ≡ false
+no_digit c h = grind (arith, nat_tests)
+
+digits_run : (ds rest : List ℕ) → all_ascii_digits ds ≡ true → Stops rest → run is_ascii_digit (ds ++ rest) ≡ (ds, rest)
+digits_run [] [] h s = refl
+digits_run [] (c ∷ rest) h s = rw (no_digit c s) refl
+digits_run (d ∷ ds) rest h s =
+    let p = and_true (is_ascii_digit d) (all_ascii_digits ds) h in
+    rw p.0 (ap (λ (r : List ℕ × List ℕ). (d ∷ r.0, r.1)) (digits_run ds rest p.1 s))
+
+pub record Numeral (n : ℕ) : Type 0 where
+  pub first : ℕ
+  pub others : List ℕ
+  pub is : decimal n ≡ first ∷ others
+  pub digits : all_ascii_digits (first ∷ others) ≡ true
+  pub value : value_after 0 (first ∷ others) ≡ n
+  pub utf8 : IsUtf8 (decimal n)
+
+cut_numeral : (n : ℕ) (ds : List ℕ) → decimal n ≡ ds → 0 < length ds → all_ascii_digits ds ≡ true → value_after 0 ds ≡ n → IsUtf8 (decimal n) → Numeral n
+cut_numeral n [] e some digits value utf8 = absurd (omega arith)
+cut_numeral n (d ∷ ds) e some digits value utf8 = record { first = d; others = ds; is = e; digits = digits; value = value; utf8 = utf8 }
+
+numeral : (n : ℕ) → n < 10 ^ 64 → Numeral n
+numeral n h =
+    let k = decimal_is_IsNumeral_wide n h in
+    cut_numeral n (decimal n) refl k.0.0 (own.from (decimal n) k.0.1) (own.same (decimal n) k.0.1 ∙ k.1) (IsUtf8-from_ascii (decimal n) (IsAscii-decimal_wide n h))
+
+digit_is : (d : ℕ) → is_ascii_digit d ≡ true → (is_blank d ≡ false) × ((d == 47) ≡ false) × (begins_name d ≡ false)
+digit_is d h = (grind (arith, nat_tests), grind (arith, nat_tests), grind (arith, nat_tests))
+
+third_false : {A : Type 0} (p q r s : Bool) (v w x y z : A) → p ≡ false → q ≡ false → r ≡ false → s ≡ true → cond p v (cond q w (cond r x (cond s y z))) ≡ y
+third_false false false false true v w x y z a b c d = refl
+third_false true q r s v w x y z a b c d = absurd cc
+third_false false true r s v w x y z a b c d = absurd cc
+third_false false false true s v w x y z a b c d = absurd cc
+third_false false false false false v w x y z a b c d = absurd cc
+
+chosen_first : {A : Type 0} (s : Bool) (y z : A) → s ≡ true → cond s y z ≡ y
+chosen_first true y z h = refl
+chosen_first false y z h = absurd cc
+
+and_left_false : (b c : Bool) → b ≡ false → (b && c) ≡ false
+and_left_false true c h = absurd cc
+and_left_false false c h = refl
+
+pub length_later : (a b : List ℕ) → length b ≤ length (a ++ b)
+length_later [] b = omega arith
+length_later (x ∷ a) b = omega (arith, length_later a b)
+
+-- what begins with a digit is read as digits
+digit_lexeme : (d : ℕ) (bytes : List ℕ) (t : Token) (rest : List ℕ) → is_blank d ≡ false → (d == 47) ≡ false → begins_name d ≡ false → is_ascii_digit d ≡ true
+    → ◌≡◌ {A = Token × List ℕ} (digits_token (value_after 0 (run is_ascii_digit (d ∷ bytes)).0), (run is_ascii_digit (d ∷ bytes)).1) (t, rest) → lexeme_at (d ∷ bytes) ≡ (Some t, rest)
+digit_lexeme d bytes t rest blank slash letter digit e =
+    third_false (is_blank d) ((d == 47) && starts 42 bytes) (begins_name d) (is_ascii_digit d) (None, bytes) (skipped (comment_at (rest_of bytes))) (seen (word_at (d ∷ bytes))) (seen (digits_at (d ∷ bytes))) (seen (other_at d bytes))
+    blank (and_left_false (d == 47) (starts 42 bytes) slash) letter digit
+    ∙ ap seen e
+
+-- what begins with a minus before a digit is read as digits with a sign
+signed_lexeme : (d : ℕ) (bytes : List ℕ) (t : Token) (rest : List ℕ) → is_ascii_digit d ≡ true
+    → ◌≡◌ {A = Option Token × List ℕ} (Some (signed_token true (value_after 0 (run is_ascii_digit (d ∷ bytes)).0)), (run is_ascii_digit (d ∷ bytes)).1) (Some t, rest) → lexeme_at (45 ∷ (d ∷ bytes)) ≡ (Some t, rest)
+signed_lexeme d bytes t rest digit e =
+    ap seen (chosen_first (is_ascii_digit d) (signed_token true (value_after 0 (run is_ascii_digit (d ∷ bytes)).0), (run is_ascii_digit (d ∷ bytes)).1) (tokens.Bad, bytes) digit) ∙ e
+
+-- digits before what doesn't go on with them
+digits_lexeme : (n : ℕ) (d : ℕ) (ds rest : List ℕ) → all_ascii_digits (d ∷ ds) ≡ true → value_after 0 (d ∷ ds) ≡ n → n < 2 ^ 127 → Stops rest → lexeme_at (d ∷ (ds ++ rest)) ≡ (Some (tokens.Digits (pos n)), rest)
+digits_lexeme n d ds rest h v small stops =
+    let p = and_true (is_ascii_digit d) (all_ascii_digits ds) h in
+    let q = digit_is d p.0 in
+    let r : run is_ascii_digit (d ∷ (ds ++ rest)) ≡ (d ∷ ds, rest) = digits_run (d ∷ ds) rest h stops in
+    let fits : nat_lt n (2 ^ 127) ≡ true = grind (arith, nat_tests) in
+    let token : digits_token (value_after 0 (d ∷ ds)) ≡ tokens.Digits (pos n) = ap digits_token v ∙ (rw fits refl) in
+    let read : ◌≡◌ {A = Token × List ℕ} (digits_token (value_after 0 (run is_ascii_digit (d ∷ (ds ++ rest))).0), (run is_ascii_digit (d ∷ (ds ++ rest))).1) (tokens.Digits (pos n), rest) =
+    ap (λ (x : List ℕ × List ℕ). (digits_token (value_after 0 x.0), x.1)) r ∙ ap (λ (t : Token). (t, rest)) token in
+    digit_lexeme d (ds ++ rest) (tokens.Digits (pos n)) rest q.0 q.1 q.2 p.0 read
+
+minus_lexeme : (n : ℕ) (d : ℕ) (ds rest : List ℕ) → all_ascii_digits (d ∷ ds) ≡ true → value_after 0 (d ∷ ds) ≡ suc n → n < 2 ^ 127 → Stops rest → lexeme_at (45 ∷ (d ∷ (ds ++ rest))) ≡ (Some (tokens.Signed (negsuc n)), rest)
+minus_lexeme n d ds rest h v small stops =
+    let p = and_true (is_ascii_digit d) (all_ascii_digits ds) h in
+    let r : run is_ascii_digit (d ∷ (ds ++ rest)) ≡ (d ∷ ds, rest) = digits_run (d ∷ ds) rest h stops in
+    let fits : nat_le (suc n) (2 ^ 127) ≡ true = grind (arith, nat_tests) in
+    let token : signed_token true (value_after 0 (d ∷ ds)) ≡ tokens.Signed (negsuc n) = ap (signed_token true) v ∙ (rw fits refl) in
+    let read : ◌≡◌ {A = Option Token × List ℕ} (Some (signed_token true (value_after 0 (run is_ascii_digit (d ∷ (ds ++ rest))).0)), (run is_ascii_digit (d ∷ (ds ++ rest))).1) (Some (tokens.Signed (negsuc n)), rest) =
+    ap (λ (x : List ℕ × List ℕ). (Some (signed_token true (value_after 0 x.0)), x.1)) r ∙ ap (λ (t : Token). (Some t, rest)) token in
+    signed_lexeme d (ds ++ rest) (tokens.Signed (negsuc n)) rest p.0 read
+
+-- KEYWORDS AND SYMBOLS
+
+-- each byte is below 128
+abbrev pub is_plain : List ℕ → Bool
+is_plain bytes = list_all (λ b. nat_lt b 128) bytes
+
+plain_ascii : (bytes : List ℕ) → is_plain bytes ≡ true → IsAscii bytes
+plain_ascii [] h = IsAscii-nil
+plain_ascii (b ∷ bytes) h =
+    let p = and_true (nat_lt b 128) (is_plain bytes) h in
+    let below : b < 128 = grind (arith, nat_tests) in
+    IsAscii-cons b bytes below (plain_ascii bytes p.1)
+
+pub plain_utf8 : (bytes : List ℕ) → is_plain bytes ≡ true → IsUtf8 bytes
+plain_utf8 bytes h = IsUtf8-from_ascii bytes (plain_ascii bytes h)
+
+no_letter : (c : ℕ) → (continues_name c || c == 39) ≡ false → continues_name c ≡ false
+no_letter c h = grind (arith, nat_tests)
+
+word_run : (w rest : List ℕ) → list_all continues_name w ≡ true → Stops rest → run continues_name (w ++ rest) ≡ (w, rest)
+word_run [] [] h s = refl
+word_run [] (c ∷ rest) h s = rw (no_letter c s) refl
+word_run (c ∷ w) rest h s =
+    let p = and_true (continues_name c) (list_all continues_name w) h in
+    rw p.0 (ap (λ (r : List ℕ × List ℕ). (c ∷ r.0, r.1)) (word_run w rest p.1 s))
+
+-- a keyword before what doesn't go on with it
+keyword_at : (w rest : List ℕ) (f : Fixed) → list_all continues_name w ≡ true → keyword_of w ≡ Some f → Stops rest → word_at (w ++ rest) ≡ (tokens.Fixed f, rest)
+keyword_at w rest f h k s =
+    ap (λ (r : List ℕ × List ℕ). (word_token (keyword_of r.0) r.0, r.1)) (word_run w rest h s) ∙ ap (λ (o : Option Fixed). (word_token o w, rest)) k
+
+-- a word that is no keyword before what doesn't go on with it
+pub bare_at : (w rest : List ℕ) → list_all continues_name w ≡ true → keyword_of w ≡ None → is_name w ≡ true → Stops rest → word_at (w ++ rest) ≡ (tokens.Bare w, rest)
+bare_at w rest h k n s =
+    ap (λ (r : List ℕ × List ℕ). (word_token (keyword_of r.0) r.0, r.1)) (word_run w rest h s) ∙ ap (λ (o : Option Fixed). (word_token o w, rest)) k ∙ (rw n refl)
+
+-- PARTS OF A TEXT
+
+-- a token that is no bad one
+abbrev pub is_good : Token → Bool
+is_good t = not (is_bad t)
+
+good_case : (b : Bool) → not b ≡ true → b ≡ false
+good_case true h = absurd cc
+good_case false h = refl
+
+pub good_is : (t : Token) → is_good t ≡ true → is_bad t ≡ false
+good_is t h = good_case (is_bad t) h
+
+-- a change that leaves all but bare names as they are
+pub record Fixes (change : Token → Token) : Type 0 where
+  pub fixed : (f : Fixed) → change (tokens.Fixed f) ≡ tokens.Fixed f
+  pub quoted : (n : List ℕ) → change (tokens.Quoted n) ≡ tokens.Quoted n
+  pub digits : (z : ℤ) → change (tokens.Digits z) ≡ tokens.Digits z
+  pub signed : (z : ℤ) → change (tokens.Signed z) ≡ tokens.Signed z
+  pub text : (t : List ℕ) → change (tokens.Text t) ≡ tokens.Text t
+
+module _ (change : Token → Token) (fixes : Fixes change) where
+  pub name_atom : (n : List ℕ) → is_name n ≡ true → (Atom change) (name_text n) (tokens.Quoted n ∷ [])
+  name_atom n h = record {
+    reads = λ rest more stops again.
+        let e : lexeme_at (96 ∷ ((n ++ (96 ∷ [])) ++ rest)) ≡ (Some (tokens.Quoted n), rest) = ap (λ (l : List ℕ). lexeme_at (96 ∷ l)) (append_assoc n (96 ∷ []) rest) ∙ quoted_name_at n rest h in
+        let l : length rest ≤ length ((n ++ (96 ∷ [])) ++ rest) = subst (λ (s : List ℕ). length rest ≤ length s) (sym (append_assoc n (96 ∷ []) rest)) (length_behind n rest 96) in
+        has_symbol change false 96 ((n ++ (96 ∷ [])) ++ rest) (tokens.Quoted n) (tokens.Quoted n) rest more (fixes.quoted n) refl e refl l (again false);
+    utf8 = enclosed_utf8 96 96 n (omega arith) (omega arith) (name_utf8 n h);
+  }
+
+  pub text_atom : (t : List ℕ) → IsUtf8 t → IsUtf8 (flat_map escaped t) → (Atom change) (quoted t) (tokens.Text t ∷ [])
+  text_atom t u v = record {
+    reads = λ rest more stops again.
+        let e : lexeme_at (39 ∷ ((flat_map escaped t ++ (39 ∷ [])) ++ rest)) ≡ (Some (tokens.Text t), rest) =
+        ap (λ (l : List ℕ). lexeme_at (39 ∷ l)) (append_assoc (flat_map escaped t) (39 ∷ []) rest) ∙ (rw (text_read t rest stops, utf8_lossy-IsUtf8 t u) refl) in
+        let l : length rest ≤ length ((flat_map escaped t ++ (39 ∷ [])) ++ rest) = subst (λ (s : List ℕ). length rest ≤ length s) (sym (append_assoc (flat_map escaped t) (39 ∷ []) rest)) (length_behind (flat_map escaped t) rest 39) in
+        has_symbol change false 39 ((flat_map escaped t ++ (39 ∷ [])) ++ rest) (tokens.Text t) (tokens.Text t) rest more (fixes.text t) refl e refl l (again false);
+    utf8 = enclosed_utf8 39 39 (flat_map escaped t) (omega arith) (omega arith) v;
+  }
+
+  pub digits_atom : (n : ℕ) → n < 2 ^ 127 → (Atom change) (signed_decimal (pos n)) (tokens.Digits (pos n) ∷ [])
+  digits_atom n small =
+      let k = numeral n (omega arith) in
+      record {
+        reads = λ rest more stops again.
+            let e = digits_lexeme n k.first k.others rest k.digits k.value small stops in
+            subst (λ (l : List ℕ). Has change false (l ++ rest) (tokens.Digits (pos n) ∷ more)) (sym k.is)
+            (has_token change false k.first (k.others ++ rest) (tokens.Digits (pos n)) (tokens.Digits (pos n)) rest more (fixes.digits (pos n)) refl e refl (length_later k.others rest) (again (continues_name k.first)));
+        utf8 = k.utf8;
+      }
+
+  pub minus_atom : (n : ℕ) → n < 2 ^ 127 → (Atom change) (signed_decimal (negsuc n)) (tokens.Signed (negsuc n) ∷ [])
+  minus_atom n small =
+      let k = numeral (suc n) (omega arith) in
+      record {
+        reads = λ rest more stops again.
+            let e = minus_lexeme n k.first k.others rest k.digits k.value small stops in
+            subst (λ (l : List ℕ). Has change false (45 ∷ (l ++ rest)) (tokens.Signed (negsuc n) ∷ more)) (sym k.is)
+            (has_symbol change false 45 (k.first ∷ (k.others ++ rest)) (tokens.Signed (negsuc n)) (tokens.Signed (negsuc n)) rest more (fixes.signed (negsuc n)) refl e refl (omega (arith, length_later k.others rest)) (again false));
+        utf8 = IsUtf8-append (45 ∷ []) (decimal (suc n)) (ascii_utf8_one 45 (omega arith)) k.utf8;
+      }
+
+  pub null_atom : (Atom change) (codes "NULL") (tokens.Fixed Null ∷ [])
+  null_atom = record {
+    reads = λ rest more stops again.
+        has_token change false 78 (85 ∷ 76 ∷ 76 ∷ rest) (tokens.Fixed Null) (tokens.Fixed Null) rest more (fixes.fixed Null) refl (ap seen (keyword_at (codes "NULL") rest Null refl refl stops)) refl (omega arith) (again true);
+    utf8 = plain_utf8 (codes "NULL") refl;
+  }
+
+  pub negation_suffix : (Suffix change) (codes " NOT") (tokens.Fixed Not ∷ [])
+  negation_suffix = record {
+    reads = λ touching rest more stops again.
+        has_blank change touching (78 ∷ 79 ∷ 84 ∷ rest) (tokens.Fixed Not ∷ more)
+        (has_token change false 78 (79 ∷ 84 ∷ rest) (tokens.Fixed Not) (tokens.Fixed Not) rest more (fixes.fixed Not) refl (ap seen (keyword_at (codes "NOT") rest Not refl refl stops)) refl (omega arith) (again true));
+    stops = λ rest h. refl;
+    utf8 = plain_utf8 (codes " NOT") refl;
+  }
+
+  -- a keyword or symbol with a blank on each side
+  pub spaced : (c : ℕ) (cs : List ℕ) (f : Fixed) → ((rest : List ℕ) → lexeme_at (c ∷ (cs ++ (32 ∷ rest))) ≡ (Some (tokens.Fixed f), 32 ∷ rest)) → is_plain (32 ∷ (c ∷ (cs ++ (32 ∷ [])))) ≡ true
+      → (Separator change) (32 ∷ (c ∷ (cs ++ (32 ∷ [])))) (tokens.Fixed f ∷ [])
+  spaced c cs f e u = record {
+    reads = λ touching rest more again.
+        subst (λ (l : List ℕ). Has change touching (32 ∷ (c ∷ l)) (tokens.Fixed f ∷ more)) (sym (append_assoc cs (32 ∷ []) rest))
+        (has_blank change touching (c ∷ (cs ++ (32 ∷ rest))) (tokens.Fixed f ∷ more)
+        (has_token change false c (cs ++ (32 ∷ rest)) (tokens.Fixed f) (tokens.Fixed f) (32 ∷ rest) more (fixes.fixed f) refl (e rest) refl (length_later cs (32 ∷ rest)) (has_blank change (continues_name c) rest more again)));
+    stops = λ rest. refl;
+    utf8 = plain_utf8 (32 ∷ (c ∷ (cs ++ (32 ∷ [])))) u;
+  }
+
+  -- one symbol
+  pub symbol : (c : ℕ) (f : Fixed) → continues_name c ≡ false → (continues_name c || c == 39) ≡ false → ((rest : List ℕ) → lexeme_at (c ∷ rest) ≡ (Some (tokens.Fixed f), rest)) → is_plain (c ∷ []) ≡ true → (Separator change) (c ∷ []) (tokens.Fixed f ∷ [])
+  symbol c f other stops e u = record {
+    reads = λ touching rest more again. has_symbol change touching c rest (tokens.Fixed f) (tokens.Fixed f) rest more (fixes.fixed f) other (e rest) refl (omega arith) again;
+    stops = λ rest. stops;
+    utf8 = plain_utf8 (c ∷ []) u;
+  }
+
+  pub open_symbol : (Separator change) (codes "(") (tokens.Fixed Open ∷ [])
+  open_symbol = symbol 40 Open refl refl (λ rest. refl) refl
+
+  pub close_symbol : (Separator change) (codes ")") (tokens.Fixed Close ∷ [])
+  close_symbol = symbol 41 Close refl refl (λ rest. refl) refl
+
+  pub comma_symbol : (Separator change) (codes ",") (tokens.Fixed Comma ∷ [])
+  comma_symbol = symbol 44 Comma refl refl (λ rest. refl) refl
+
+  pub dot_symbol : (Separator change) (codes ".") (tokens.Fixed Dot ∷ [])
+  dot_symbol = symbol 46 Dot refl refl (λ rest. refl) refl
+
+  pub star_symbol : (Separator change) (codes "*") (tokens.Fixed Star ∷ [])
+  star_symbol = symbol 42 Star refl refl (λ rest. refl) refl
+
+  -- a symbol and a blank behind it, and a symbol and a blank before it
+  pub spaced_comma : (Separator change) (codes ", ") (tokens.Fixed Comma ∷ [])
+  spaced_comma = record {
+    reads = λ touching rest more again. has_symbol change touching 44 (32 ∷ rest) (tokens.Fixed Comma) (tokens.Fixed Comma) (32 ∷ rest) more (fixes.fixed Comma) refl refl refl (omega arith) (has_blank change false rest more again);
+    stops = λ rest. refl;
+    utf8 = plain_utf8 (codes ", ") refl;
+  }
+
+  pub spaced_open : (Separator change) (codes " (") (tokens.Fixed Open ∷ [])
+  spaced_open = record {
+    reads = λ touching rest more again. has_blank change touching (40 ∷ rest) (tokens.Fixed Open ∷ more) (has_symbol change false 40 rest (tokens.Fixed Open) (tokens.Fixed Open) rest more (fixes.fixed Open) refl refl refl (omega arith) again);
+    stops = λ rest. refl;
+    utf8 = plain_utf8 (codes " (") refl;
+  }
+
+  pub in_text : (Separator change) (codes " IN (") (tokens.Fixed In ∷ tokens.Fixed Open ∷ [])
+  in_text = record {
+    reads = λ touching rest more again.
+        has_blank change touching (73 ∷ 78 ∷ 32 ∷ 40 ∷ rest) (tokens.Fixed In ∷ tokens.Fixed Open ∷ more)
+        (has_token change false 73 (78 ∷ 32 ∷ 40 ∷ rest) (tokens.Fixed In) (tokens.Fixed In) (32 ∷ 40 ∷ rest) (tokens.Fixed Open ∷ more) (fixes.fixed In) refl refl refl (omega arith)
+        (spaced_open.reads true rest more again));
+    stops = λ rest. refl;
+    utf8 = plain_utf8 (codes " IN (") refl;
+  }
+
+  -- a keyword and a blank behind it
+  pub leading : (c : ℕ) (cs : List ℕ) (f : Fixed) → ((rest : List ℕ) → lexeme_at (c ∷ (cs ++ (32 ∷ rest))) ≡ (Some (tokens.Fixed f), 32 ∷ rest)) → is_plain (c ∷ (cs ++ (32 ∷ []))) ≡ true → (Prefix change) (c ∷ (cs ++ (32 ∷ []))) (tokens.Fixed f ∷ [])
+  leading c cs f e u = record {
+    reads = λ rest more again.
+        subst (λ (l : List ℕ). Has change false (c ∷ l) (tokens.Fixed f ∷ more)) (sym (append_assoc cs (32 ∷ []) rest))
+        (has_token change false c (cs ++ (32 ∷ rest)) (tokens.Fixed f) (tokens.Fixed f) (32 ∷ rest) more (fixes.fixed f) refl (e rest) refl (length_later cs (32 ∷ rest)) (has_blank change (continues_name c) rest more again));
+    utf8 = plain_utf8 (c ∷ (cs ++ (32 ∷ []))) u;
+  }
+
+  pub not_prefix : (Prefix change) (codes "NOT ") (tokens.Fixed Not ∷ [])
+  not_prefix = leading 78 (79 ∷ 84 ∷ []) Not (λ rest. refl) refl
+
+  pub select_prefix : (Prefix change) (codes "SELECT ") (tokens.Fixed Select ∷ [])
+  select_prefix = leading 83 (codes "ELECT") Select (λ rest. refl) refl
+
+  pub into_text : (Separator change) (codes " INTO ") (tokens.Fixed Into ∷ [])
+  into_text = spaced 73 (codes "NTO") Into (λ rest. refl) refl
+
+  pub insert_prefix : (Prefix change) (codes "INSERT INTO ") (tokens.Fixed Insert ∷ tokens.Fixed Into ∷ [])
+  insert_prefix = record {
+    reads = λ rest more again.
+        has_token change false 73 (codes "NSERT INTO " ++ rest) (tokens.Fixed Insert) (tokens.Fixed Insert) (codes " INTO " ++ rest) (tokens.Fixed Into ∷ more) (fixes.fixed Insert) refl refl refl (omega arith)
+        (into_text.reads true rest more again);
+    utf8 = plain_utf8 (codes "INSERT INTO ") refl;
+  }
+
+  pub and_text : (Separator change) (codes " AND ") (tokens.Fixed And ∷ [])
+  and_text = spaced 65 (codes "ND") And (λ rest. refl) refl
+
+  pub or_text : (Separator change) (codes " OR ") (tokens.Fixed Or ∷ [])
+  or_text = spaced 79 (codes "R") Or (λ rest. refl) refl
+
+  pub between_text : (Separator change) (codes " BETWEEN ") (tokens.Fixed Between ∷ [])
+  between_text = spaced 66 (codes "ETWEEN") Between (λ rest. refl) refl
+
+  pub as_text : (Separator change) (codes " AS ") (tokens.Fixed As ∷ [])
+  as_text = spaced 65 (codes "S") As (λ rest. refl) refl
+
+  pub where_text : (Separator change) (codes " WHERE ") (tokens.Fixed Where ∷ [])
+  where_text = spaced 87 (codes "HERE") Where (λ rest. refl) refl
+
+  pub values_text : (Separator change) (codes " VALUES ") (tokens.Fixed Values ∷ [])
+  values_text = spaced 86 (codes "ALUES") Values (λ rest. refl) refl
+
+  pub from_text : (Separator change) (codes " FROM ") (tokens.Fixed From ∷ [])
+  from_text = spaced 70 (codes "ROM") From (λ rest. refl) refl
+
+  pub comparison_sign : (c : Comparison) → (f : Fixed) × (comparison_of (tokens.Fixed f) ≡ Some c) × (Separator change) (comparison_text c) (tokens.Fixed f ∷ [])
+  comparison_sign comparisons.Equal = (Equal, refl, spaced 61 [] Equal (λ rest. refl) refl)
+  comparison_sign comparisons.NotEqual = (NotEqual, refl, spaced 60 (62 ∷ []) NotEqual (λ rest. refl) refl)
+  comparison_sign comparisons.Less = (Less, refl, spaced 60 [] Less (λ rest. refl) refl)
+  comparison_sign comparisons.AtMost = (AtMost, refl, spaced 60 (61 ∷ []) AtMost (λ rest. refl) refl)
+  comparison_sign comparisons.Greater = (Greater, refl, spaced 62 [] Greater (λ rest. refl) refl)
+  comparison_sign comparisons.AtLeast = (AtLeast, refl, spaced 62 (61 ∷ []) AtLeast (λ rest. refl) refl)

@@ -1,0 +1,212 @@
+-- What is printed of a statement has tokens that spell it.
+use Rattle.std.proofs.Common.{◌≡◌, ℕ, map, List, [], ◌∷◌, ◌++◌, true, false, Some, None, refl, sym, ap, subst, ◌∙◌, append_assoc, inl, inr, codes}
+use Rattle.std.specs.List.{flat_map}
+use Rattle.sql_text.specs.declared.statement.Statement.{Statement}
+use Rattle.sql_text.specs.declared.statement.Statement.TheVariants as statements
+use Rattle.sql_text.specs.declared.statement.SelectItems.TheVariants as items
+use Rattle.sql_text.specs.declared.statement.Item.{Item}
+use Rattle.sql_text.specs.declared.statement.Tab.{Tab}
+use Rattle.sql_text.specs.declared.token.Fixed.TheVariants.{From, Insert, Into, Select, Values, Where, Open, Close, Comma, Star, Semicolon}
+use Rattle.sql_text.specs.declared.token.Token.{Token}
+use Rattle.sql_text.specs.declared.token.Token.TheVariants as tokens
+use Rattle.sql_text.specs.Rules.{is, ◌▷◌, ◌∣◌, series, at_most_further, parenthesized, optional}
+use Rattle.sql_text.specs.Grammar.{name, literal, alias, cond as cond_rule, tuple, column_list, insert, item, select_items, where_cond, select, statement}
+use Rattle.sql_text.specs.Printing.{literal_text, name_text, joined_text, column_text, literals_text, cond_text, alias_text, item_text, items_text, where_text, columns_text, tuple_text, printed}
+use Rattle.sql_text.proofs.Written.{Atom, Suffix, prefix_of, nothing_behind, atom_suffix, prefix_atom, separator_atom, suffix_suffix, separator_alone}
+use Rattle.sql_text.proofs.Lexemes as lexemes
+use Rattle.sql_text.proofs.Sound.{Sounds}
+use Rattle.sql_text.proofs.Told.{Respells, first_sound, second_sound, mapped, unmapped, retold}
+use Rattle.sql_text.proofs.Respelled.{alias_told, column_told, enclosed_told, few_told, literal_told, name_told, series_told, table_told}
+use Rattle.sql_text.proofs.RespelledConds.{cond_told}
+
+module _ (change : Token → Token) (fixes : lexemes.Fixes change) where
+  -- ---- statements
+
+  tuple_told : (depth : ℕ) → Respells (Atom change) (tuple depth) tuple_text
+  tuple_told depth l ts h sound =
+      let e = (enclosed_told change fixes) (series Comma literal) literals_text ((series_told change fixes) Comma literal literal_text (codes ",") (lexemes.comma_symbol change fixes) (literal_told change fixes)) depth l ts h sound in
+      let list : List Token = e.0 ++ (tokens.Fixed Close ∷ []) in (
+        tokens.Fixed Open ∷ list,
+        e.1,
+        (prefix_atom change) (codes "(") (literals_text l ++ codes ")") (tokens.Fixed Open ∷ []) list ((prefix_of change) (codes "(") (tokens.Fixed Open ∷ []) (lexemes.open_symbol change fixes)) e.2,
+      )
+
+  columns_told : (depth : ℕ) → Respells (Suffix change) (column_list depth) columns_text
+  columns_told depth c ts (inl h) sound =
+      let u = unmapped (parenthesized (series Comma name) depth) Some c ts h in
+      let e = (enclosed_told change fixes) (series Comma name) (λ l. joined_text (codes ", ") (map name_text l)) ((series_told change fixes) Comma name name_text (codes ", ") (lexemes.spaced_comma change fixes) (name_told change fixes)) depth u.0 ts u.2 sound in
+      let list : List Token = e.0 ++ (tokens.Fixed Close ∷ []) in
+      retold (Suffix change) (column_list depth) columns_text c (Some u.0) u.1 (
+        tokens.Fixed Open ∷ list,
+        inl (mapped (parenthesized (series Comma name) depth) (λ l. is (Some l)) u.0 (Some u.0) (tokens.Fixed Open ∷ list) e.1 (refl, refl)),
+        (separator_atom change) (codes " (") (joined_text (codes ", ") (map name_text u.0) ++ codes ")") (tokens.Fixed Open ∷ []) list (lexemes.spaced_open change fixes) e.2,
+      )
+  columns_told depth c ts (inr h) sound = retold (Suffix change) (column_list depth) columns_text c None h.0 ([], inr (refl, refl), (nothing_behind change))
+
+  pub insert_told : (depth : ℕ) → Respells (Atom change) (insert depth) printed
+  unfolding printed
+  insert_told depth x ts (rest, e, (into, s)) sound =
+      let inside : Sounds rest = (let k : Sounds (tokens.Fixed Insert ∷ rest) = subst Sounds e sound in k.1) in
+      let t = s.second in
+      let after_into : Sounds s.rest = second_sound s inside in
+      let c = t.1.second in
+      let after_table : Sounds t.1.rest = second_sound t.1 after_into in
+      let v = c.1.second in
+      let after_columns : Sounds v.0 = (let k : Sounds (tokens.Fixed Values ∷ v.0) = subst Sounds v.1 (second_sound c.1 after_table) in k.1) in
+      let u = unmapped (series Comma (tuple depth)) (λ r. statements.Insert (record { table = t.0; columns = c.0; rows = r })) x v.0 v.2 in
+      let a = (table_told change fixes) t.0 t.1.front t.1.first (first_sound t.1 after_into) in
+      let b = columns_told depth c.0 c.1.front c.1.first (first_sound c.1 after_table) in
+      let r = (series_told change fixes) Comma (tuple depth) tuple_text (codes ",") (lexemes.comma_symbol change fixes) (tuple_told depth) u.0 v.0 u.2 after_columns in
+      let value : Statement = statements.Insert (record { table = t.0; columns = c.0; rows = u.0 }) in
+      let behind : List ℕ = codes " VALUES " ++ joined_text (codes ",") (map tuple_text u.0) in
+      retold (Atom change) (insert depth) printed x value u.1 (
+        tokens.Fixed Insert ∷ (tokens.Fixed Into ∷ (a.0 ++ (b.0 ++ (tokens.Fixed Values ∷ r.0)))),
+        (
+          tokens.Fixed Into ∷ (a.0 ++ (b.0 ++ (tokens.Fixed Values ∷ r.0))),
+          refl,
+          (
+            true,
+            record {
+              front = tokens.Fixed Into ∷ [];
+              rest = a.0 ++ (b.0 ++ (tokens.Fixed Values ∷ r.0));
+              whole = refl;
+              first = inl ([], refl, (refl, refl));
+              second = (
+                t.0,
+                record {
+                  front = a.0;
+                  rest = b.0 ++ (tokens.Fixed Values ∷ r.0);
+                  whole = refl;
+                  first = a.1;
+                  second = (
+                    c.0,
+                    record {
+                      front = b.0;
+                      rest = tokens.Fixed Values ∷ r.0;
+                      whole = refl;
+                      first = b.1;
+                      second = (r.0, refl, mapped (series Comma (tuple depth)) (λ l. is (statements.Insert (record { table = t.0; columns = c.0; rows = l }))) u.0 value r.0 r.1 (refl, refl));
+                    },
+                  );
+                },
+              );
+            },
+          ),
+        ),
+        (prefix_atom change) (codes "INSERT INTO ") (name_text t.0 ++ (columns_text c.0 ++ behind)) (tokens.Fixed Insert ∷ tokens.Fixed Into ∷ []) (a.0 ++ (b.0 ++ (tokens.Fixed Values ∷ r.0))) (lexemes.insert_prefix change fixes)
+            ((atom_suffix change) (name_text t.0) (columns_text c.0 ++ behind) a.0 (b.0 ++ (tokens.Fixed Values ∷ r.0)) a.2
+            ((suffix_suffix change) (columns_text c.0) behind b.0 (tokens.Fixed Values ∷ r.0) b.2
+            ((separator_atom change) (codes " VALUES ") (joined_text (codes ",") (map tuple_text u.0)) (tokens.Fixed Values ∷ []) r.0 (lexemes.values_text change fixes) r.2))),
+      )
+
+  item_told : Respells (Atom change) item item_text
+  item_told i ts (c, s) sound =
+      let u = unmapped alias (λ a. record { column = c; alias = a }) i s.rest s.second in
+      let a = (column_told change fixes) c s.front s.first (first_sound s sound) in
+      let b = (alias_told change fixes) u.0 s.rest u.2 (second_sound s sound) in
+      let value : Item = record { column = c; alias = u.0 } in
+      retold (Atom change) item item_text i value u.1 (
+        a.0 ++ b.0,
+        (c, record { front = a.0; rest = b.0; whole = refl; first = a.1; second = mapped alias (λ k. is (record { column = c; alias = k })) u.0 value b.0 b.1 (refl, refl) }),
+        (atom_suffix change) (column_text c) (alias_text u.0) a.0 b.0 a.2 b.2,
+      )
+
+  star_atom : (Atom change) (codes "*") (tokens.Fixed Star ∷ [])
+  star_atom = (separator_alone change) (codes "*") (tokens.Fixed Star ∷ []) (lexemes.star_symbol change fixes)
+
+  items_told : Respells (Atom change) select_items items_text
+  items_told i ts (inl (rest, e, h)) sound =
+      retold (Atom change) select_items items_text i items.All h.0
+      (tokens.Fixed Star ∷ [], inl ([], refl, (refl, refl)), star_atom)
+  items_told i ts (inr (x, s)) sound =
+      let u = unmapped (at_most_further 899 Comma item) (λ l. items.Columns (x ∷ l)) i s.rest s.second in
+      let a = item_told x s.front s.first (first_sound s sound) in
+      let b = (few_told change fixes) 899 Comma item item_text (codes ", ") (lexemes.spaced_comma change fixes) item_told u.0 s.rest u.2 (second_sound s sound) in
+      retold (Atom change) select_items items_text i (items.Columns (x ∷ u.0)) u.1 (
+        a.0 ++ b.0,
+        inr (x, record { front = a.0; rest = b.0; whole = refl; first = a.1; second = mapped (at_most_further 899 Comma item) (λ l. is (items.Columns (x ∷ l))) u.0 (items.Columns (x ∷ u.0)) b.0 b.1 (refl, refl) }),
+        (atom_suffix change) (item_text x) (flat_map (λ y. codes ", " ++ y) (map item_text u.0)) a.0 b.0 a.2 b.2,
+      )
+
+  pub where_told : (depth : ℕ) → Respells (Suffix change) (where_cond depth) where_text
+  where_told depth c ts (inl (rest, e, h)) sound =
+      let inner : Sounds rest = (let k : Sounds (tokens.Fixed Where ∷ rest) = subst Sounds e sound in k.1) in
+      let u = unmapped (cond_rule depth) Some c rest h in
+      let a = (cond_told change fixes) depth u.0 rest u.2 inner in
+      retold (Suffix change) (where_cond depth) where_text c (Some u.0) u.1 (
+        tokens.Fixed Where ∷ a.0,
+        inl (a.0, refl, mapped (cond_rule depth) (λ k. is (Some k)) u.0 (Some u.0) a.0 a.1 (refl, refl)),
+        (separator_atom change) (codes " WHERE ") (cond_text u.0) (tokens.Fixed Where ∷ []) a.0 (lexemes.where_text change fixes) a.2,
+      )
+  where_told depth c ts (inr h) sound = retold (Suffix change) (where_cond depth) where_text c None h.0 ([], inr (refl, refl), (nothing_behind change))
+
+  pub select_told : (depth : ℕ) → Respells (Atom change) (select depth) printed
+  unfolding printed
+  select_told depth x ts (rest, e, (i, s)) sound =
+      let inside : Sounds rest = (let k : Sounds (tokens.Fixed Select ∷ rest) = subst Sounds e sound in k.1) in
+      let f = s.second in
+      let after_from : Sounds f.0 = (let k : Sounds (tokens.Fixed From ∷ f.0) = subst Sounds f.1 (second_sound s inside) in k.1) in
+      let t = f.2 in
+      let w = unmapped (where_cond depth) (λ c. statements.Select (record { items = i; tab = t.0; cond = c })) x t.1.rest t.1.second in
+      let n = t.1.first in
+      let k = unmapped alias (λ a. record { table = n.0; alias = a }) t.0 n.1.rest n.1.second in
+      let in_tab : Sounds t.1.front = first_sound t.1 after_from in
+      let a = items_told i s.front s.first (first_sound s inside) in
+      let b = (table_told change fixes) n.0 n.1.front n.1.first (first_sound n.1 in_tab) in
+      let c = (alias_told change fixes) k.0 n.1.rest k.2 (second_sound n.1 in_tab) in
+      let d = where_told depth w.0 t.1.rest w.2 (second_sound t.1 after_from) in
+      let from : Tab = record { table = n.0; alias = k.0 } in
+      let value : Statement = statements.Select (record { items = i; tab = from; cond = w.0 }) in
+      let same : x ≡ value = w.1 ∙ ap (λ (v : Tab). statements.Select (record { items = i; tab = v; cond = w.0 })) k.1 in
+      let source : List Token = b.0 ++ c.0 in
+      let behind : List ℕ = alias_text k.0 ++ where_text w.0 in
+      retold (Atom change) (select depth) printed x value same (
+        tokens.Fixed Select ∷ (a.0 ++ (tokens.Fixed From ∷ (source ++ d.0))),
+        (
+          a.0 ++ (tokens.Fixed From ∷ (source ++ d.0)),
+          refl,
+          (
+            i,
+            record {
+              front = a.0;
+              rest = tokens.Fixed From ∷ (source ++ d.0);
+              whole = refl;
+              first = a.1;
+              second = (
+                source ++ d.0,
+                refl,
+                (
+                  from,
+                  record {
+                    front = source;
+                    rest = d.0;
+                    whole = refl;
+                    first = (n.0, record { front = b.0; rest = c.0; whole = refl; first = b.1; second = mapped alias (λ v. is (record { table = n.0; alias = v })) k.0 from c.0 c.1 (refl, refl) });
+                    second = mapped (where_cond depth) (λ v. is (statements.Select (record { items = i; tab = from; cond = v }))) w.0 value d.0 d.1 (refl, refl);
+                  },
+                ),
+              );
+            },
+          ),
+        ),
+        subst (λ (l : List Token). (Atom change) (codes "SELECT " ++ (items_text i ++ (codes " FROM " ++ (name_text n.0 ++ behind)))) (tokens.Fixed Select ∷ (a.0 ++ (tokens.Fixed From ∷ l)))) (sym (append_assoc b.0 c.0 d.0))
+            ((prefix_atom change) (codes "SELECT ") (items_text i ++ (codes " FROM " ++ (name_text n.0 ++ behind))) (tokens.Fixed Select ∷ []) (a.0 ++ (tokens.Fixed From ∷ (b.0 ++ (c.0 ++ d.0)))) (lexemes.select_prefix change fixes)
+            ((atom_suffix change) (items_text i) (codes " FROM " ++ (name_text n.0 ++ behind)) a.0 (tokens.Fixed From ∷ (b.0 ++ (c.0 ++ d.0))) a.2
+            ((separator_atom change) (codes " FROM ") (name_text n.0 ++ behind) (tokens.Fixed From ∷ []) (b.0 ++ (c.0 ++ d.0)) (lexemes.from_text change fixes)
+            ((atom_suffix change) (name_text n.0) behind b.0 (c.0 ++ d.0) b.2
+            ((suffix_suffix change) (alias_text k.0) (where_text w.0) c.0 d.0 c.2 d.2))))),
+      )
+
+  body_told : (depth : ℕ) → Respells (Atom change) (insert depth ∣ select depth) printed
+  body_told depth s ts (inl h) sound = let a = insert_told depth s ts h sound in (a.0, inl a.1, a.2)
+  body_told depth s ts (inr h) sound = let a = select_told depth s ts h sound in (a.0, inr a.1, a.2)
+
+  pub statement_told : (depth : ℕ) → Respells (Atom change) (statement depth) printed
+  statement_told depth x ts (s, q) sound =
+      let same : x ≡ s = q.second.1.second.0 in
+      let a = body_told depth s q.front q.first (first_sound q sound) in
+      retold (Atom change) (statement depth) printed x s same (
+        a.0,
+        mapped (insert depth ∣ select depth) (λ v. optional Semicolon ▷ λ _. is v) s s a.0 a.1 (false, record { front = []; rest = []; whole = refl; first = inr (refl, refl); second = (refl, refl) }),
+        a.2,
+      )

@@ -1,0 +1,9 @@
+use Rattle.std.proofs.Common.{◌≡◌, ◌-◌}
+use Rattle.sql_text.specs.declared.token.Fixed.TheVariants as fixed
+use Rattle.sql_text.specs.Reading.{further_at, with_front}
+use Rattle.sql_text.specs.LinkReading.{aggregate_at}
+use Rattle.sql_text.proofs.reading.scans.further_aggregates.Given as goal
+
+-- what is read so far, and what is read of the rest, is all
+abbrev pub invariant-loop : goal.invariant-loop
+invariant-loop l = with_front l.calls.items (further_at (l.most - l.counter) fixed.Comma (aggregate_at l.depth) l.rest) ≡ with_front l.initial.calls.items (further_at l.most fixed.Comma (aggregate_at l.depth) l.tokens)
