@@ -1,0 +1,11 @@
+//! What is said of a configuration: its links, line by line, or the rule that it breaks.
+//!
+//! [`links_text`] is what `spider_local check` shows of a catalog: a line for each link, in the order of the file, and then `ok`. [`fault_text`] is the
+//! text of a rule that a configuration breaks. `specs/Links` and `specs/Rules` have both.
+#![tactic(auto)]
+
+mod links;
+mod rules;
+
+pub use links::links_text;
+pub use rules::fault_text;
