@@ -167,23 +167,42 @@ fn lines_have_a_limit(rt: HostRuntime) -> Result<(), Fail> {
     Ok(())
 }
 
+/// The table t with a link on a server that isn't there.
+const LOST_SERVER: &[u8] =
+    b"[front]\nname = \"f\"\nlisten = \"127.0.0.1:4406\"\nuser = \"link\"\npassword = \"\"\n[[user]]\nname = \"link\"\npassword = \"\"\n[[server]]\nname = \"s1\"\naddress = \"127.0.0.1:4501\"\n[[server]]\nname = \"s2\"\naddress = \"127.0.0.1:4502\"\n[[table]]\nname = \"t\"\ncolumns = [\"k BIGINT\", \"v BIGINT\"]\nkey = \"k\"\ncomment = 'srv \"s9\"'\n";
+
+/// The table t on two links, of which the second is NG.
+const OTHER_LINKS: &[u8] =
+    b"[front]\nname = \"f\"\nlisten = \"127.0.0.1:4406\"\nuser = \"link\"\npassword = \"\"\n[[user]]\nname = \"link\"\npassword = \"\"\n[[server]]\nname = \"s1\"\naddress = \"127.0.0.1:4501\"\n[[server]]\nname = \"s2\"\naddress = \"127.0.0.1:4502\"\n[[table]]\nname = \"t\"\ncolumns = [\"k BIGINT\", \"v BIGINT\"]\nkey = \"k\"\ncomment = 'srv \"s1 s2\", lst \"1 3\"'\n";
+
+#[test]
+fn links_are_written(rt: HostRuntime) -> Result<(), Fail> {
+    let alloc = rt.alloc();
+    let ran = call(alloc, "check conf", OTHER_LINKS, b"", Vec::new(alloc), Vec::new(alloc))?;
+    assert_eq!(rt; ran.status, 0);
+    assert_eq!(rt; ran.out.as_slice(), b"link t - 0 s1 t OK\nlink t - 1 s2 t NG\nok\n".as_slice());
+    Ok(())
+}
+
 #[test]
 fn words_and_configurations_have_their_statuses(rt: HostRuntime) -> Result<(), Fail> {
     let alloc = rt.alloc();
     let usage: &[u8] =
         b"usage: spider_local check CONF / play CONF / wire CONF / workload CONF SEED N\n";
-    let other: &[u8] = b"conf: not built\n";
     let large = vec![in alloc; b'\n'; 1_048_577]?;
-    let table: [(&str, &[u8], u8, &[u8]); 9] = [
+    let table: [(&str, &[u8], u8, &[u8]); 12] = [
         ("play conf", FIRST_CONF, 0, b""),
         ("play missing", FIRST_CONF, 1, b"outside fault: conf\n"),
         ("", FIRST_CONF, 2, usage),
         ("play", FIRST_CONF, 2, usage),
         ("play -conf", FIRST_CONF, 2, usage),
         ("play conf conf", FIRST_CONF, 2, usage),
-        ("check conf", FIRST_CONF, 2, usage),
-        ("play conf", b"", 4, other),
-        ("play conf", large.as_slice(), 4, other),
+        ("check", FIRST_CONF, 2, usage),
+        ("check conf", FIRST_CONF, 0, b""),
+        ("check conf", LOST_SERVER, 4, b"conf: unknown server s9\n"),
+        ("check conf", large.as_slice(), 4, b"conf: too large\n"),
+        ("play conf", b"", 4, b"conf: missing key front\n"),
+        ("play conf", OTHER_LINKS, 4, b"conf: not built\n"),
     ];
     for (words, conf, status, err) in table {
         let ran = call(alloc, words, conf, b"", Vec::new(alloc), Vec::new(alloc))?;

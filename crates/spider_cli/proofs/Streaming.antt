@@ -1,6 +1,6 @@
 use Rattle.std.proofs.Common.{◌≡◌, ℕ, ◌++◌, List, [], Some, None, Result, Ok, Err, OnOk, take, drop, refl, sym, ap, ◌∙◌, subst, append_assoc}
 use Rattle.std.proofs.lemmas.List.{append-nil, take-append-drop}
-use Rattle.spider_cli.specs.declared.catalog.ConfFault.{ConfFault}
+use Rattle.spider_cli.specs.declared.conf.ConfFault.{ConfFault}
 use Rattle.spider_cli.specs.declared.schedule.LineRule.{LineRule}
 use Rattle.spider_cli.specs.declared.world_play.Player.{Player}
 use Rattle.spider_cli.specs.declared.world_play.PlayFault.{PlayFault}

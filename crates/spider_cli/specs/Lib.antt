@@ -1,4 +1,5 @@
 pub mod BranchStore
+pub mod Configurations
 pub mod Forms
 pub mod History
 pub mod Lines

@@ -1,7 +1,5 @@
 use Rattle.std.specs.Prelude.{ℕ, ◌++◌, List, [], codes}
 use Rattle.std.specs.Fmt.{decimal}
-use Rattle.spider_cli.specs.declared.catalog.ConfFault.{ConfFault}
-use Rattle.spider_cli.specs.declared.catalog.ConfFault.TheVariants.{NotBuilt}
 use Rattle.spider_cli.specs.declared.schedule.LineRule.{LineRule}
 use Rattle.spider_cli.specs.declared.schedule.LineRule.TheVariants.{UnknownWord}
 use Rattle.spider_cli.specs.declared.outcome.Object.{Object}
@@ -15,7 +13,7 @@ code_of outcome.Done = 0
 code_of (outcome.Fault what) = 1
 code_of outcome.Usage = 2
 code_of outcome.NoMemory = 3
-code_of (outcome.Conf fault) = 4
+code_of (outcome.Conf rule) = 4
 code_of (outcome.Refused line rule) = 5
 
 abbrev pub object_text : Object → List ℕ
@@ -26,14 +24,11 @@ object_text object.Output = codes "output"
 abbrev pub rule_text : LineRule → List ℕ
 rule_text UnknownWord = codes "unknown word"
 
-abbrev pub conf_text : ConfFault → List ℕ
-conf_text NotBuilt = codes "conf: not built\n"
-
 -- what is said on error output
 abbrev pub text_of : Outcome → List ℕ
 text_of outcome.Done = []
 text_of (outcome.Fault what) = codes "outside fault: " ++ (object_text what ++ codes "\n")
 text_of outcome.Usage = codes "usage: spider_local check CONF / play CONF / wire CONF / workload CONF SEED N\n"
 text_of outcome.NoMemory = codes "out of memory\n"
-text_of (outcome.Conf fault) = conf_text fault
+text_of (outcome.Conf rule) = codes "conf: " ++ (rule ++ codes "\n")
 text_of (outcome.Refused line rule) = codes "schedule line " ++ (decimal line ++ (codes ": " ++ (rule_text rule ++ codes "\n")))

@@ -1,6 +1,6 @@
 use Rattle.std.specs.Prelude.{◌≡◌, ◌≢◌, ℕ, ◌++◌, ◌≤◌, false, ◌==◌, List, [], ◌∷◌, Some, None, length}
 use Rattle.my_wire.specs.Counts.{IsFront}
-use Rattle.spider_cli.specs.declared.catalog.TheConstants.{FIRST_CONF}
+use Rattle.spider_cli.specs.declared.conf.TheConstants.{FIRST_CONF}
 use Rattle.spider_cli.specs.declared.world_play.Player.{Player}
 use Rattle.spider_cli.specs.declared.world_play.PlayEnd.{PlayEnd}
 use Rattle.spider_cli.specs.declared.world_play.PlayEnd.TheVariants as end

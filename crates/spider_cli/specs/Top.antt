@@ -1,12 +1,16 @@
 use Rattle.std.specs.Prelude.{◌≡◌, ◌≢◌, ◌⊎◌, ℕ, ◌==◌, Bool, false, List, [], ◌∷◌, Option, Some, None, IsSome, if◌then◌else◌, codes}
 use Rattle.std.specs.Str.{bytes_eq}
 use Rattle.my_wire.specs.Counts.{HasRisen, TakesFront, IsFront}
-use Rattle.spider_cli.specs.declared.catalog.TheConstants.{FIRST_CONF}
+use Rattle.spider_cli.specs.declared.conf.TheConstants.{FIRST_CONF}
 use Rattle.spider_cli.specs.declared.outcome.Object.TheVariants as object
 use Rattle.spider_cli.specs.declared.outcome.Outcome.{Outcome}
 use Rattle.spider_cli.specs.declared.outcome.Outcome.TheVariants as outcome
 use Rattle.spider_cli.specs.declared.world_play.PlayEnd.TheVariants as end
 use Rattle.spider_cli.specs.declared.schedule.LineRule.{LineRule}
+use Rattle.catalog.specs.Conf.{IsCatalog}
+use Rattle.catalog.specs.Views.{View}
+use Rattle.conf_check.specs.Links.{links_text}
+use Rattle.spider_cli.specs.Configurations.{Breaks, Unrun}
 use Rattle.spider_cli.specs.Run.{transcript}
 use Rattle.my_wire.specs.Packets.{first_packet}
 use Rattle.my_messages.specs.declared.session_end.SessionEnd.{SessionEnd}
@@ -18,13 +22,15 @@ use Rattle.spider_cli.specs.Wire.{AreSolo, Wires}
 
 -- THE WORDS
 
--- what the words ask for: to play a schedule, or to serve one session of packets, on a configuration of that path
+-- what the words ask for of a configuration of that path: to check it, to play a schedule on it, or to serve one session of packets
 pub data Form : Type 0 where
+  Check : List ℕ → Form
   Play : List ℕ → Form
   Wire : List ℕ → Form
 
 -- the path of the configuration
 abbrev pub path_of : Form → List ℕ
+path_of (Check path) = path
 path_of (Play path) = path
 path_of (Wire path) = path
 
@@ -37,6 +43,7 @@ has_dash (b ∷ bytes) = b == 45
 abbrev pub word_form : List ℕ → List ℕ → Option Form
 word_form word path =
     if has_dash path then None
+    else if bytes_eq word (codes "check") then Some (Check path)
     else if bytes_eq word (codes "play") then Some (Play path)
     else if bytes_eq word (codes "wire") then Some (Wire path)
     else None
@@ -113,32 +120,63 @@ module _ {S K : Type 0} (gives : S → List ℕ → S → Type 0) (has_ended : S
   abbrev pub IsIdle : Type 0
   IsIdle = (rest ≡ source) × (full ≡ sink)
 
+  -- what was written is a front of what is said of a catalog's links, and nothing was read
+  pub record ChecksFront : Type 0 where
+    pub catalog : View
+    pub written : List ℕ
+    pub unread : rest ≡ source
+    pub taken : takes sink written full
+    pub front : IsFront written (links_text catalog)
+
+  -- it is the whole
+  pub record ChecksWhole (catalog : View) : Type 0 where
+    pub unread : rest ≡ source
+    pub taken : takes sink (links_text catalog) full
+
   -- by the form of the words
   abbrev pub FrontBy : Option Form → Type 0
   FrontBy None = IsIdle
+  FrontBy (Some (Check path)) = IsIdle ⊎ ChecksFront
   FrontBy (Some (Play path)) = WritesFront
   FrontBy (Some (Wire path)) = WiresFront
 
   abbrev pub WholeBy : Option Form → Type 0
   WholeBy None = ⊥
+  WholeBy (Some (Check path)) = (catalog : View) × ChecksWhole catalog
   WholeBy (Some (Play path)) = WritesWhole
   WholeBy (Some (Wire path)) = WiresWhole
 
 -- THE CONFIGURATION
 
-module _ {F : Type 0} (holds : F → List ℕ → Option (List ℕ) → Type 0) (words : List (List ℕ)) (files : F) where
-  -- the words have this form, and the file that they name is the one configuration that is built
-  pub record IsStarted (form : Form) : Type 0 where
-    pub form_is : form_of words ≡ Some form
-    pub conf : holds files (path_of form) (Some FIRST_CONF.now)
+-- a configuration isn't run, or there was no memory to tell why
+abbrev pub IsUnrun : List ℕ → Outcome → Type 0
+IsUnrun conf (outcome.Conf rule) = Unrun conf rule
+IsUnrun conf outcome.NoMemory = Unit {0}
+IsUnrun conf _ = ⊥
 
-  -- the words name a file, which is another, or too large
-  pub record IsOther : Type 0 where
+-- by the form of the words, this is the text of the rule by which a file is refused; one that is too large has no contents
+abbrev pub RefusedBy : Form → List ℕ → List ℕ → Type 0
+RefusedBy (Check path) conf rule = Breaks conf rule
+RefusedBy (Play path) conf rule = Unrun conf rule
+RefusedBy (Wire path) conf rule = Unrun conf rule
+
+abbrev pub RefusedAs : Form → Option (List ℕ) → List ℕ → Type 0
+RefusedAs form None rule = rule ≡ codes "too large"
+RefusedAs form (Some conf) rule = RefusedBy form conf rule
+
+module _ {F : Type 0} (holds : F → List ℕ → Option (List ℕ) → Type 0) (words : List (List ℕ)) (files : F) where
+  -- the words have this form, and the file that they name has these bytes
+  pub record IsStarted (form : Form) (conf : List ℕ) : Type 0 where
+    pub form_is : form_of words ≡ Some form
+    pub held : holds files (path_of form) (Some conf)
+
+  -- the words name a file that is refused by this rule
+  pub record IsRefused (rule : List ℕ) : Type 0 where
     pub form : Form
     pub form_is : form_of words ≡ Some form
     pub contents : Option (List ℕ)
     pub held : holds files (path_of form) contents
-    pub other : contents ≢ Some FIRST_CONF.now
+    pub refused : RefusedAs form contents rule
 
 -- THE WHOLE CALL
 
@@ -151,8 +189,9 @@ module _ {S K : Type 0} (gives : S → List ℕ → S → Type 0) (has_ended : S
   abbrev pub Wired : SessionEnd → Type 0
   Wired how = Wires gives has_ended takes source rest sink full how
 
-  -- what the form asks for, by how it ended, with its cause
+  -- what the form asks for of a configuration that is run, by how it ended, with its cause
   abbrev pub Does : Form → Outcome → Type 0
+  Does (Check path) how = ⊥
   Does (Play path) outcome.Done = Played end.Done
   Does (Play path) (outcome.Refused line rule) = Played (end.Refused line rule)
   Does (Play path) (outcome.Fault object.Input) = HasRisen (read_faults source) (read_faults rest) × Played end.ReadFault
@@ -170,30 +209,48 @@ module _ {S K : Type 0} (gives : S → List ℕ → S → Type 0) (has_ended : S
   Does (Wire path) (outcome.Conf fault) = ⊥
   Does (Wire path) outcome.Usage = ⊥
 
-  -- the same on a configuration: refused exactly where it isn't built, and then nothing was read or written
+  -- the same on any configuration: refused exactly where it isn't run, and then nothing was read or written
+  abbrev pub RunsOn : List ℕ → Form → Outcome → Type 0
+  RunsOn conf form (outcome.Conf rule) = Unrun conf rule × IsIdle gives has_ended takes source rest sink full
+  RunsOn conf form outcome.Done = (conf ≡ FIRST_CONF.now) × Does form outcome.Done
+  RunsOn conf form (outcome.Refused line rule) = (conf ≡ FIRST_CONF.now) × Does form (outcome.Refused line rule)
+  RunsOn conf form (outcome.Fault object) = (conf ≡ FIRST_CONF.now) × Does form (outcome.Fault object)
+  RunsOn conf form outcome.NoMemory = IsIdle gives has_ended takes source rest sink full ⊎ ((conf ≡ FIRST_CONF.now) × Does form outcome.NoMemory)
+  RunsOn conf form outcome.Usage = ⊥
+
+  -- a configuration was checked: its links were written, or it breaks a rule, and then nothing was
+  abbrev pub Checks : List ℕ → Outcome → Type 0
+  Checks conf (outcome.Conf rule) = Breaks conf rule × IsIdle gives has_ended takes source rest sink full
+  Checks conf outcome.Done = (catalog : View) × IsCatalog conf catalog × ChecksWhole gives has_ended takes source rest sink full catalog
+  Checks conf (outcome.Fault object.Output) = HasRisen (write_faults sink) (write_faults full) × (front : ChecksFront gives has_ended takes source rest sink full) × IsCatalog conf front.catalog
+  Checks conf (outcome.Fault object.Input) = ⊥
+  Checks conf (outcome.Fault object.Conf) = ⊥
+  Checks conf (outcome.Refused line rule) = ⊥
+  Checks conf outcome.NoMemory = IsIdle gives has_ended takes source rest sink full
+  Checks conf outcome.Usage = ⊥
+
+  -- by the form of the words, on any configuration
   abbrev pub DoesOn : List ℕ → Form → Outcome → Type 0
-  DoesOn conf form (outcome.Conf fault) = (conf ≢ FIRST_CONF.now) × IsIdle gives has_ended takes source rest sink full
-  DoesOn conf form outcome.Done = (conf ≡ FIRST_CONF.now) × Does form outcome.Done
-  DoesOn conf form (outcome.Refused line rule) = (conf ≡ FIRST_CONF.now) × Does form (outcome.Refused line rule)
-  DoesOn conf form (outcome.Fault object) = (conf ≡ FIRST_CONF.now) × Does form (outcome.Fault object)
-  DoesOn conf form outcome.NoMemory = (conf ≡ FIRST_CONF.now) × Does form outcome.NoMemory
-  DoesOn conf form outcome.Usage = ⊥
+  DoesOn conf (Check path) how = Checks conf how
+  DoesOn conf (Play path) how = RunsOn conf (Play path) how
+  DoesOn conf (Wire path) how = RunsOn conf (Wire path) how
 
 module _ {F S K : Type 0} (holds : F → List ℕ → Option (List ℕ) → Type 0) (file_faults : F → ℕ) (gives : S → List ℕ → S → Type 0) (has_ended : S → Type 0) (read_faults : S → ℕ)
     (takes : K → List ℕ → K → Type 0) (write_faults : K → ℕ) (words : List (List ℕ)) (files left : F) (source rest : S) (sink full : K) where
   abbrev Idle : Type 0
   Idle = IsIdle gives has_ended takes source rest sink full
 
-  abbrev Did : Form → Outcome → Type 0
-  Did form how = IsStarted holds words files form × Does gives has_ended read_faults takes write_faults source rest sink full form how
+  -- a form's work on the file that the words name
+  abbrev pub Did : Outcome → Type 0
+  Did how = (form : Form) × (conf : List ℕ) × IsStarted holds words files form conf × DoesOn gives has_ended read_faults takes write_faults source rest sink full conf form how
 
   -- how the call ended, with its cause, and what was read and written by then
   abbrev pub Runs : Outcome → Type 0
   Runs outcome.Usage = (form_of words ≡ None) × (left ≡ files) × Idle
-  Runs (outcome.Conf fault) = IsOther holds words files × Idle
+  Runs (outcome.Conf rule) = IsRefused holds words files rule × Idle
   Runs (outcome.Fault object.Conf) = IsSome (form_of words) × HasRisen (file_faults files) (file_faults left) × Idle
-  Runs (outcome.Fault object.Input) = (form : Form) × Did form (outcome.Fault object.Input)
-  Runs (outcome.Fault object.Output) = (form : Form) × Did form (outcome.Fault object.Output)
-  Runs outcome.NoMemory = IsSome (form_of words) × (Idle ⊎ ((form : Form) × Did form outcome.NoMemory))
-  Runs outcome.Done = (form : Form) × Did form outcome.Done
-  Runs (outcome.Refused line rule) = (form : Form) × Did form (outcome.Refused line rule)
+  Runs (outcome.Fault object.Input) = Did (outcome.Fault object.Input)
+  Runs (outcome.Fault object.Output) = Did (outcome.Fault object.Output)
+  Runs outcome.NoMemory = IsSome (form_of words) × (Idle ⊎ Did outcome.NoMemory)
+  Runs outcome.Done = Did outcome.Done
+  Runs (outcome.Refused line rule) = Did (outcome.Refused line rule)

@@ -1,26 +1,27 @@
 //! The program `spider_local`: its top call.
 //!
-//! [`spider_local`] does what the command's words say, over any files, input, output and error output. Of the forms of the words two
-//! are built. `play CONF` plays the schedule on the input, with the front, the backend and what lies between in memory, and writes
+//! [`spider_local`] does what the command's words say, over any files, input, output and error output. Of the forms of the words three
+//! are built. `check CONF` writes the links of a configuration, or says which rule it breaks. `play CONF` plays the schedule on the input, with the front, the backend and what lies between in memory, and writes
 //! the transcript. `wire CONF` serves one session of packets of the MySQL protocol, from the first command on, between the input and the output.
-//! CONF has to be the one configuration that is built, [`FIRST_CONF`].
+//! For these two CONF has to be the one configuration that is built, [`FIRST_CONF`].
 //!
 //! The way of a line: `world_play` cuts it out of the input, `schedule` reads it, `world` hands its statement to `fixed_core` and
 //! that one's requests to `branch_store`, and `transcript` writes what the front gave out. `laws` states what the definitions
 //! say of one another: each answer is a plain session's, and the decided transactions are a serial history of one plain table.
 #![tactic(auto)]
 
-ghost use Rattle.std.specs.Prelude.{◌≡◌, ◌↔◌, ◌⊎◌, None, map, string_bytes, List, ℕ, option_map};
+ghost use Rattle.std.specs.Prelude.{◌≡◌, ◌≢◌, ◌↔◌, ◌⊎◌, None, map, string_bytes, List, ℕ, option_map};
 ghost use Rattle.my_wire.specs.Counts.{HasRisen};
 ghost use Rattle.spider_cli.specs.History.{IsPlain};
 ghost use Rattle.spider_cli.specs.Outcome.{code_of, text_of};
-ghost use Rattle.spider_cli.specs.Top.{Play, Wire, form_of, word_form, path_of, DoesOn, Runs, Says, FrontBy, WholeBy, StopsAt, IsOther};
+ghost use Rattle.spider_cli.specs.Top.{Check, Play, Wire, form_of, word_form, path_of, DoesOn, Runs, Says, FrontBy, WholeBy, StopsAt, IsRefused, IsUnrun, RunsOn, Checks};
+ghost use Rattle.catalog.specs.Conf.{IsCatalog};
 ghost use Rattle.spider_cli.specs.Forms.{form_view};
 ghost use Rattle.spider_cli.specs.declared.outcome.Outcome.{Outcome};
 ghost use Rattle.spider_cli.specs.declared.schedule.LineRule.{LineRule};
 
 mod branch_store;
-mod catalog;
+mod conf;
 mod laws;
 mod outcome;
 mod schedule;
@@ -29,10 +30,13 @@ mod wire_play;
 mod world;
 mod world_play;
 
-pub use catalog::FIRST_CONF;
-use catalog::{ConfFault, is_built};
+pub use conf::FIRST_CONF;
+use conf::{broken_rule, is_built, refusal};
+use catalog::{Catalog, read_catalog};
+use conf_check::links_text;
 use laws::is_plain;
-use my_wire::{End, Files, FilesFault, Sink, Source, Status};
+use list_types::Text;
+use my_wire::{End, Files, FilesFault, Sink, Source, Status, write_all};
 use outcome::{Object, Outcome, say, status_code};
 use std::alloc::Global;
 use wire_play::{WireEnd, wire};
@@ -41,6 +45,8 @@ use world_play::{PlayEnd, play};
 /// What the words ask for, with the path of the configuration.
 #[derive(Clone, Copy)]
 enum Form<'a> {
+    /// To check the configuration.
+    Check(&'a str),
     /// To play the schedule on the input.
     Play(&'a str),
     /// To serve one session of packets, between the input and the output.
@@ -55,6 +61,7 @@ fn word_form<'a>(word: &str, path: &'a str) -> Option<Form<'a>>
         return None;
     }
     match word {
+        "check" => Some(Form::Check(path)),
         "play" => Some(Form::Play(path)),
         "wire" => Some(Form::Wire(path)),
         _ => None,
@@ -71,13 +78,30 @@ fn form_of(words: &[String]) -> Option<Form<'_>>
     }
 }
 
-/// Plays the input on a configuration.
-fn play_on<I: Source, O: Sink>(alloc: Global, conf: &[u8], input: &mut I, out: &mut O) -> Outcome
-    ensures { (path : List ℕ) → DoesOn I.gives I.has_ended I.faults O.takes O.faults input.old input.new out.old out.new conf.now (Play path) result }
+/// A configuration isn't run.
+fn refused(alloc: Global, conf: &[u8]) -> Outcome
+    requires { conf.now ≢ FIRST_CONF.now }
+    ensures { IsUnrun conf.now result }
+{
+    match refusal(alloc, conf) {
+        Ok(rule) => Outcome::Conf(rule),
+        Err(_) => Outcome::NoMemory,
+    }
+}
+
+/// Plays the input on the configuration that is built.
+fn play_built<I: Source, O: Sink>(
+    alloc: Global,
+    conf: &[u8],
+    input: &mut I,
+    out: &mut O,
+) -> Outcome
+    requires { conf.now ≡ FIRST_CONF.now }
+    ensures { (path : List ℕ) → RunsOn I.gives I.has_ended I.faults O.takes O.faults input.old input.new out.old out.new conf.now (Play path) result }
 {
     match play(alloc, conf, input, out) {
         PlayEnd::Done => Outcome::Done,
-        PlayEnd::Conf(fault) => Outcome::Conf(fault),
+        PlayEnd::Conf(_) => unreachable!(),
         PlayEnd::Refused { line, rule } => Outcome::Refused { line, rule },
         PlayEnd::ReadFault => Outcome::Fault(Object::Input),
         PlayEnd::WriteFault => Outcome::Fault(Object::Output),
@@ -85,18 +109,54 @@ fn play_on<I: Source, O: Sink>(alloc: Global, conf: &[u8], input: &mut I, out: &
     }
 }
 
-/// Serves one session of packets on a configuration.
-fn wire_on<I: Source, O: Sink>(alloc: Global, conf: &[u8], input: &mut I, out: &mut O) -> Outcome
-    ensures { (path : List ℕ) → DoesOn I.gives I.has_ended I.faults O.takes O.faults input.old input.new out.old out.new conf.now (Wire path) result }
+/// Plays the input on a configuration.
+fn play_on<I: Source, O: Sink>(alloc: Global, conf: &[u8], input: &mut I, out: &mut O) -> Outcome
+    ensures { (path : List ℕ) → RunsOn I.gives I.has_ended I.faults O.takes O.faults input.old input.new out.old out.new conf.now (Play path) result }
 {
     if !is_built(conf) {
-        return Outcome::Conf(ConfFault::NotBuilt);
+        return refused(alloc, conf);
+    }
+    play_built(alloc, conf, input, out)
+}
+
+/// Serves one session of packets on a configuration.
+fn wire_on<I: Source, O: Sink>(alloc: Global, conf: &[u8], input: &mut I, out: &mut O) -> Outcome
+    ensures { (path : List ℕ) → RunsOn I.gives I.has_ended I.faults O.takes O.faults input.old input.new out.old out.new conf.now (Wire path) result }
+{
+    if !is_built(conf) {
+        return refused(alloc, conf);
     }
     match wire(alloc, input, out) {
         WireEnd::Done => Outcome::Done,
         WireEnd::Failed(End::Source) => Outcome::Fault(Object::Input),
         WireEnd::Failed(End::Sink) => Outcome::Fault(Object::Output),
         WireEnd::NoMemory => Outcome::NoMemory,
+    }
+}
+
+/// Writes the links of a catalog.
+fn write_links<O: Sink>(alloc: Global, catalog: &Catalog, out: &mut O) -> Outcome
+    ensures { (conf : List ℕ) → IsCatalog conf catalog.now → (S : Type 0) (gives : S → List ℕ → S → Type 0) (has_ended : S → Type 0) (read_faults : S → ℕ) (source : S) → Checks gives has_ended read_faults O.takes O.faults source source out.old out.new conf result }
+{
+    let Ok(text) = links_text(alloc, catalog) else {
+        return Outcome::NoMemory;
+    };
+    match write_all(out, text.as_slice()) {
+        Ok(()) => Outcome::Done,
+        Err(_) => Outcome::Fault(Object::Output),
+    }
+}
+
+/// Checks a configuration.
+fn check_on<O: Sink>(alloc: Global, conf: &[u8], out: &mut O) -> Outcome
+    ensures { (S : Type 0) (gives : S → List ℕ → S → Type 0) (has_ended : S → Type 0) (read_faults : S → ℕ) (source : S) → Checks gives has_ended read_faults O.takes O.faults source source out.old out.new conf.now result }
+{
+    match read_catalog(alloc, conf) {
+        Ok(catalog) => write_links(alloc, &catalog, out),
+        Err(fault) => match broken_rule(alloc, &fault) {
+            Ok(rule) => Outcome::Conf(rule),
+            Err(_) => Outcome::NoMemory,
+        },
     }
 }
 
@@ -111,6 +171,7 @@ fn carry_out<I: Source, O: Sink>(
     ensures { DoesOn I.gives I.has_ended I.faults O.takes O.faults input.old input.new out.old out.new conf.now (form_view form.entry) result }
 {
     match form {
+        Form::Check(_path) => check_on(alloc, conf, out),
         Form::Play(_path) => play_on(alloc, conf, input, out),
         Form::Wire(_path) => wire_on(alloc, conf, input, out),
     }
@@ -121,6 +182,7 @@ fn path_of<'a>(form: Form<'a>) -> &'a str
     ensures { result.now ≡ path_of (form_view form.entry) }
 {
     match form {
+        Form::Check(path) => path,
         Form::Play(path) => path,
         Form::Wire(path) => path,
     }
@@ -141,7 +203,10 @@ fn run<F: Files, I: Source, O: Sink>(
     };
     match files.read_file(alloc, path_of(form)) {
         Ok(conf) => carry_out(alloc, form, conf.as_slice(), input, out),
-        Err(FilesFault::TooLarge) => Outcome::Conf(ConfFault::NotBuilt),
+        Err(FilesFault::TooLarge) => match Text::from_str(alloc, "too large") {
+            Ok(rule) => Outcome::Conf(rule),
+            Err(_) => Outcome::NoMemory,
+        },
         Err(FilesFault::Failed) => Outcome::Fault(Object::Conf),
         Err(FilesFault::NoMemory) => Outcome::NoMemory,
     }
@@ -167,12 +232,12 @@ pub fn spider_local<F: Files, I: Source, O: Sink, E: Sink>(
     // Status 0: it is the whole, of a schedule that was read to its end, or of a session to its end.
     ensures done { result.code ≡ 0 → WholeBy I.gives I.has_ended O.takes input.old input.new out.old out.new (form_of (map string_bytes words.now)) }
 
-    // Status 1 comes only where a count rose, 4 only where the file that the words name is another than the one that is built, and 5 only at
-    // the first line that breaks a rule. Status 2 says exactly that the words have no form.
+    // Status 1 comes only where a count rose, 4 only where the file that the words name is refused by a rule, and 5 only at the first line that breaks
+    // a rule. Status 2 says exactly that the words have no form.
     ensures fault { result.code ≡ 1 →
         HasRisen (F.faults files.old) (F.faults files.new) ⊎ HasRisen (I.faults input.old) (I.faults input.new) ⊎ HasRisen (O.faults out.old) (O.faults out.new) }
     ensures usage { (result.code ≡ 2) ↔ (form_of (map string_bytes words.now) ≡ None) }
-    ensures conf { result.code ≡ 4 → IsOther F.holds (map string_bytes words.now) files.old }
+    ensures conf { result.code ≡ 4 → (rule : List ℕ) × IsRefused F.holds (map string_bytes words.now) files.old rule }
     ensures refused { result.code ≡ 5 → (line : ℕ) × (rule : LineRule) × StopsAt I.gives I.has_ended O.takes input.old input.new out.old out.new line rule }
 
     // Each status with its cause, its text on error output and all that was read and written by then.
@@ -184,8 +249,7 @@ pub fn spider_local<F: Files, I: Source, O: Sink, E: Sink>(
 {
     is_plain();
     let how = run(alloc, words, files, input, out);
-    say(how, err);
-    Status {
-        code: status_code(how),
-    }
+    let code = status_code(&how);
+    say(&how, err);
+    Status { code }
 }

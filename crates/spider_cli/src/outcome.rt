@@ -4,9 +4,9 @@ ghost use Rattle.my_wire.specs.Counts.{HasRisen, TakesFront};
 ghost use Rattle.spider_cli.specs.Outcome.{code_of, text_of, rule_text};
 ghost use Rattle.spider_cli.specs.Top.{Says};
 
-use crate::catalog::ConfFault;
 use crate::schedule::LineRule;
 use itoa::Buffer;
+use list_types::Text;
 use my_wire::{Failed, Sink, write_all, write_three};
 
 /// Every form of the words, those that aren't built yet too.
@@ -25,7 +25,7 @@ pub enum Object {
 }
 
 /// How a call of the program ended.
-#[derive(Clone, Copy, Debug, PartialEq, Eq)]
+#[derive(Debug, Drop)]
 pub enum Outcome {
     /// All is done: status 0.
     Done,
@@ -35,15 +35,15 @@ pub enum Outcome {
     Usage,
     /// Want of memory: status 3.
     NoMemory,
-    /// The configuration is refused: status 4.
-    Conf(ConfFault),
+    /// The configuration is refused by this rule: status 4.
+    Conf(Text),
     /// A line of the schedule breaks a rule: status 5.
     Refused { line: u64, rule: LineRule },
 }
 
 /// The exit status.
-pub fn status_code(how: Outcome) -> u8
-    ensures { result ≡ code_of how }
+pub fn status_code(how: &Outcome) -> u8
+    ensures { result ≡ code_of how.now }
 {
     match how {
         Outcome::Done => 0,
@@ -64,15 +64,6 @@ fn rule_end(rule: LineRule) -> &'static [u8]
     }
 }
 
-/// What is said of a configuration that is refused.
-fn conf_line(fault: ConfFault) -> &'static [u8]
-    ensures { result.now ≡ text_of (Outcome.Conf fault) }
-{
-    match fault {
-        ConfFault::NotBuilt => b"conf: not built\n",
-    }
-}
-
 /// Says that a line breaks a rule.
 fn write_refusal<E: Sink>(line: u64, rule: LineRule, err: &mut E) -> Result<(), Failed>
     ensures whole { OnOk result (E.takes err.old (text_of (Outcome.Refused line rule)) err.new) }
@@ -85,9 +76,9 @@ fn write_refusal<E: Sink>(line: u64, rule: LineRule, err: &mut E) -> Result<(), 
 }
 
 /// Says how a call ended. It takes no memory, since that may be what is wanting.
-fn write_outcome<E: Sink>(how: Outcome, err: &mut E) -> Result<(), Failed>
-    ensures whole { OnOk result (E.takes err.old (text_of how) err.new) }
-    ensures front { TakesFront E.takes err.old (text_of how) err.new }
+fn write_outcome<E: Sink>(how: &Outcome, err: &mut E) -> Result<(), Failed>
+    ensures whole { OnOk result (E.takes err.old (text_of how.now) err.new) }
+    ensures front { TakesFront E.takes err.old (text_of how.now) err.new }
     ensures cause { OnErr result (HasRisen (E.faults err.old) (E.faults err.new)) }
 {
     match how {
@@ -97,14 +88,14 @@ fn write_outcome<E: Sink>(how: Outcome, err: &mut E) -> Result<(), Failed>
         Outcome::Fault(Object::Output) => write_all(err, b"outside fault: output\n"),
         Outcome::Usage => write_all(err, USAGE),
         Outcome::NoMemory => write_all(err, b"out of memory\n"),
-        Outcome::Conf(fault) => write_all(err, conf_line(fault)),
-        Outcome::Refused { line, rule } => write_refusal(line, rule, err),
+        Outcome::Conf(rule) => write_three(err, b"conf: ", rule.as_str().as_bytes(), b"\n"),
+        Outcome::Refused { line, rule } => write_refusal(*line, *rule, err),
     }
 }
 
 /// The same. A fault of the error output changes nothing.
-pub fn say<E: Sink>(how: Outcome, err: &mut E)
-    ensures { Says E.takes E.faults err.old (text_of how) err.new }
+pub fn say<E: Sink>(how: &Outcome, err: &mut E)
+    ensures { Says E.takes E.faults err.old (text_of how.now) err.new }
 {
     let _ = write_outcome(how, err);
 }

@@ -3,9 +3,9 @@ ghost use Rattle.std.specs.Prelude.{◌≡◌, ◌≢◌, ◌<◌, ◌≤◌, le
 ghost use Rattle.my_wire.specs.Counts.{HasRisen};
 ghost use Rattle.spider_cli.specs.Playing.{Plays, IsPlayed};
 ghost use Rattle.spider_cli.specs.Showing.{Shows};
-ghost use Rattle.spider_cli.specs.declared.catalog.ConfFault.{ConfFault};
+ghost use Rattle.spider_cli.specs.declared.conf.ConfFault.{ConfFault};
 
-use crate::catalog::{ConfFault, is_built};
+use crate::conf::{ConfFault, is_built};
 use crate::schedule::{LONGEST_LINE, LineRule, cut_line};
 use crate::world::{StepFault, World};
 use my_wire::{Sink, Source, write_all};

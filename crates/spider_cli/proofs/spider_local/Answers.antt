@@ -1,5 +1,5 @@
 use Rattle.std.proofs.Common.{sym, ◌∙◌}
-use Rattle.spider_cli.proofs.Ends.{writes_front, writes_whole, usage_is_told, usage_only, rose, is_other, stops_at}
+use Rattle.spider_cli.proofs.Ends.{writes_front, writes_whole, usage_is_told, usage_only, rose, is_refused, stops_at}
 use Rattle.spider_cli.proofs.spider_local.Goals as goal
 
 pub returns-clause-prefix : goal.returns-clause-prefix
@@ -28,7 +28,7 @@ returns-clause-usage g c = (
 
 pub returns-clause-conf : goal.returns-clause-conf
 returns-clause-conf g c e =
-    is_other g.F.Files.holds g.F.Files.faults g.I.Source.gives g.I.Source.has_ended g.I.Source.faults g.O.Sink.takes g.O.Sink.faults g.met.I.Source.gives_nothing g.met.O.Sink.takes_nothing
+    is_refused g.F.Files.holds g.F.Files.faults g.I.Source.gives g.I.Source.has_ended g.I.Source.faults g.O.Sink.takes g.O.Sink.faults g.met.I.Source.gives_nothing g.met.O.Sink.takes_nothing
     _ _ _ _ _ _ _ c.run-how.result (sym c.status_code.ensures ∙ e) c.run-how.ensures
 
 pub returns-clause-refused : goal.returns-clause-refused
