@@ -122,39 +122,59 @@ fn hears(alloc: Global, job: &mut Job, answer: LinkAnswer, wanted: u64) -> Resul
     Ok(code(&job.hear(alloc, answer)?) == wanted)
 }
 
-fn done(alloc: Global, job: &mut Job, wanted: &[u64]) -> Result<bool, Fail> {
-    for code in wanted {
-        if !hears(alloc, job, LinkAnswer::Done(0), *code)? {
-            return Ok(false);
+/// An answer, and what it leads to.
+#[derive(Clone, Copy)]
+enum Step {
+    Done(u64),
+    Finds(&'static [i64], u64),
+    Refuses(u64),
+}
+
+fn refusal(alloc: Global) -> Result<LinkAnswer, Fail> {
+    Ok(LinkAnswer::Refused {
+        number: 1440,
+        message: Text::from_str(alloc, "The XID already exists")?,
+    })
+}
+
+fn plays(alloc: Global, job: &mut Job, step: Step) -> Result<bool, Fail> {
+    match step {
+        Step::Done(wanted) => hears(alloc, job, LinkAnswer::Done(0), wanted),
+        Step::Finds(keys, wanted) => {
+            hears(alloc, job, LinkAnswer::Rows(rows(alloc, keys)?), wanted)
         }
+        Step::Refuses(wanted) => hears(alloc, job, refusal(alloc)?, wanted),
     }
-    Ok(true)
 }
 
-fn finds(alloc: Global, job: &mut Job, keys: &[i64], wanted: u64) -> Result<bool, Fail> {
-    hears(alloc, job, LinkAnswer::Rows(rows(alloc, keys)?), wanted)
+/// The statement begins with two STARTs, and then each answer leads to what is wanted.
+fn runs(alloc: Global, deed: Deed, steps: &[Step]) -> Result<bool, Fail> {
+    let mut job = job(alloc, deed)?;
+    let begun = job.begin(alloc)?;
+    let mut right = code(&begun) == 20_000_011;
+    for step in steps {
+        right = plays(alloc, &mut job, *step)? && right;
+    }
+    Ok(right)
 }
 
-fn begins(alloc: Global, job: &mut Job, wanted: u64) -> Result<bool, Fail> {
-    Ok(code(&job.begin(alloc)?) == wanted)
-}
+const SELECTED: [Step; 11] = [
+    Step::Done(1),
+    Step::Done(20_000_222),
+    Step::Finds(&[1, 4], 1),
+    Step::Finds(&[1, 4], 1),
+    Step::Finds(&[2], 20_000_044),
+    Step::Done(1),
+    Step::Done(20_000_055),
+    Step::Done(1),
+    Step::Done(30_000_066),
+    Step::Done(1),
+    Step::Done(40_000_113),
+];
 
 #[test]
 fn a_select_is_merged(rt: HostRuntime) -> Result<(), Fail> {
-    let alloc = rt.alloc();
-    let mut job = job(alloc, Deed::Select)?;
-    assert!(rt; begins(alloc, &mut job, 20_000_011)?);
-    assert!(rt; done(alloc, &mut job, &[1, 20_000_222])?);
-    assert!(rt; finds(alloc, &mut job, &[1, 4], 1)?);
-    assert!(rt; finds(alloc, &mut job, &[1, 4], 1)?);
-    assert!(rt; finds(alloc, &mut job, &[2], 20_000_044)?);
-    assert!(rt;
-        done(
-            alloc,
-            &mut job,
-            &[1, 20_000_055, 1, 30_000_066, 1, 40_000_113]
-        )?
-    );
+    assert!(rt; runs(rt.alloc(), Deed::Select, &SELECTED)?);
     Ok(())
 }
 
@@ -170,74 +190,78 @@ fn news(alloc: Global, keys: &[(u32, i64)]) -> Result<Deed, Fail> {
     Ok(Deed::Insert(news))
 }
 
+const INSERTED: [Step; 14] = [
+    Step::Done(1),
+    Step::Done(20_000_222),
+    Step::Finds(&[], 1),
+    Step::Finds(&[], 1),
+    Step::Finds(&[], 20_000_333),
+    Step::Done(1),
+    Step::Done(1),
+    Step::Done(20_000_044),
+    Step::Done(1),
+    Step::Done(20_000_055),
+    Step::Done(1),
+    Step::Done(30_000_066),
+    Step::Done(1),
+    Step::Done(40_000_123),
+];
+
 #[test]
 fn an_insert_goes_to_each_link(rt: HostRuntime) -> Result<(), Fail> {
-    let alloc = rt.alloc();
-    let mut job = job(alloc, news(alloc, &[(0, 5), (1, 6), (0, 3)])?)?;
-    assert!(rt; begins(alloc, &mut job, 20_000_011)?);
-    assert!(rt; done(alloc, &mut job, &[1, 20_000_222])?);
-    assert!(rt; finds(alloc, &mut job, &[], 1)?);
-    assert!(rt; finds(alloc, &mut job, &[], 1)?);
-    assert!(rt; finds(alloc, &mut job, &[], 20_000_333)?);
-    assert!(rt;
-        done(
-            alloc,
-            &mut job,
-            &[
-                1, 1, 20_000_044, 1, 20_000_055, 1, 30_000_066, 1, 40_000_123
-            ]
-        )?
-    );
+    let deed = news(rt.alloc(), &[(0, 5), (1, 6), (0, 3)])?;
+    assert!(rt; runs(rt.alloc(), deed, &INSERTED)?);
     Ok(())
 }
+
+const TAKEN: [Step; 7] = [
+    Step::Done(1),
+    Step::Done(20_000_222),
+    Step::Finds(&[5], 1),
+    Step::Finds(&[5], 1),
+    Step::Finds(&[], 20_000_077),
+    Step::Done(1),
+    Step::Done(40_000_330),
+];
 
 #[test]
 fn a_taken_key_rolls_back(rt: HostRuntime) -> Result<(), Fail> {
-    let alloc = rt.alloc();
-    let mut job = job(alloc, news(alloc, &[(0, 5)])?)?;
-    assert!(rt; begins(alloc, &mut job, 20_000_011)?);
-    assert!(rt; done(alloc, &mut job, &[1, 20_000_222])?);
-    assert!(rt; finds(alloc, &mut job, &[5], 1)?);
-    assert!(rt; finds(alloc, &mut job, &[5], 1)?);
-    assert!(rt; finds(alloc, &mut job, &[], 20_000_077)?);
-    assert!(rt; done(alloc, &mut job, &[1, 40_000_330])?);
+    let deed = news(rt.alloc(), &[(0, 5)])?;
+    assert!(rt; runs(rt.alloc(), deed, &TAKEN)?);
     Ok(())
 }
 
-fn refuses(alloc: Global, job: &mut Job, wanted: u64) -> Result<bool, Fail> {
-    let message = Text::from_str(alloc, "The XID already exists")?;
-    hears(
-        alloc,
-        job,
-        LinkAnswer::Refused {
-            number: 1440,
-            message,
-        },
-        wanted,
-    )
-}
+const REFUSED: [Step; 3] = [
+    Step::Refuses(1),
+    Step::Done(20_000_007),
+    Step::Done(40_000_340),
+];
 
 #[test]
 fn a_refused_start_rolls_back_the_others(rt: HostRuntime) -> Result<(), Fail> {
-    let alloc = rt.alloc();
-    let mut job = job(alloc, Deed::Select)?;
-    assert!(rt; begins(alloc, &mut job, 20_000_011)?);
-    assert!(rt; refuses(alloc, &mut job, 1)?);
-    assert!(rt; done(alloc, &mut job, &[20_000_007, 40_000_340])?);
+    assert!(rt; runs(rt.alloc(), Deed::Select, &REFUSED)?);
     Ok(())
+}
+
+/// The job after the first START was answered, as it is owed.
+fn owed(alloc: Global) -> Result<Owed, Fail> {
+    let mut job = job(alloc, Deed::Select)?;
+    let _asks = job.begin(alloc)?;
+    let _waits = plays(alloc, &mut job, Step::Done(1))?;
+    Ok(job.into_owed())
+}
+
+fn is_undone(alloc: Global) -> Result<bool, Fail> {
+    let mut owed = owed(alloc)?;
+    let first = owed.next();
+    owed.hear(alloc, &LinkAnswer::Done(0));
+    let read = owed.next();
+    let asks = owed.undo(alloc)?;
+    Ok(first == Some(1) && read == None && letters(&asks) == 77 && owed.next() == Some(0))
 }
 
 #[test]
 fn what_is_owed_is_read_and_rolled_back(rt: HostRuntime) -> Result<(), Fail> {
-    let alloc = rt.alloc();
-    let mut job = job(alloc, Deed::Select)?;
-    assert!(rt; begins(alloc, &mut job, 20_000_011)?);
-    assert!(rt; done(alloc, &mut job, &[1])?);
-    let mut owed = job.into_owed();
-    assert_eq!(rt; owed.next(), Some(1));
-    owed.hear(alloc, &LinkAnswer::Done(0));
-    assert_eq!(rt; owed.next(), None);
-    assert_eq!(rt; letters(&owed.undo(alloc)?), 77);
-    assert_eq!(rt; owed.next(), Some(0));
+    assert!(rt; is_undone(rt.alloc())?);
     Ok(())
 }
