@@ -29,7 +29,8 @@ by_key column = record { column = column; rising = true } ∷ []
 below_so : (a b : ℤ) → a <ℤ b → is_lt (ordering_then (int_cmp a b) Equal) ≡ true
 below_so a b below = grind (arith, ints)
 
-key_before : (column : ℕ) (x y : List Value) (a b : ℤ) → slice_get x column ≡ Some (Number a) → slice_get y column ≡ Some (Number b) → a <ℤ b → before (by_key column) x y ≡ true
+key_before : (column : ℕ) (x y : List Value) (a b : ℤ) → slice_get x column ≡ Some (Number a) → slice_get y column ≡ Some (Number b) → a <ℤ b →
+    before (by_key column) x y ≡ true
 key_before column x y a b at there below = rw (at, there) (below_so a b below)
 
 -- one more element in front of a sorted list
@@ -37,7 +38,8 @@ sorted_more : {X : Type 0} (lt : X → X → Bool) (x y : X) (ys : List X) → l
 sorted_more lt x y ys first rest zero d from within = first
 sorted_more lt x y ys first rest (suc k) d from within = rw (add-one (suc k)) (rw (add-one k) at (rest k d (omega arith) (omega arith)))
 
-sorted_rise : (column : ℕ) (x : List Value) (low : ℤ) (rows : List (List Value)) → slice_get x column ≡ Some (Number low) → RisesFrom column low rows → IsSortedBy (before (by_key column)) (x ∷ rows)
+sorted_rise : (column : ℕ) (x : List Value) (low : ℤ) (rows : List (List Value)) → slice_get x column ≡ Some (Number low) →
+    RisesFrom column low rows → IsSortedBy (before (by_key column)) (x ∷ rows)
 sorted_rise column x low [] at rise = λ k d from within. absurd (omega arith)
 sorted_rise column x low (row ∷ rows) at (key, there, above, rest) =
     sorted_more (before (by_key column)) x row rows ((before_ranks (by_key column)).one_way x row (key_before column x row low key at there above)) (sorted_rise column row key rows there rest)
@@ -55,7 +57,8 @@ tied_both lt o z x y first second =
     let on : lt z y ≡ false = grind (arith, other.0) in
     o.chain x z y back on
 
-none_tie : (column : ℕ) (z x : List Value) (low key : ℤ) (rows : List (List Value)) → slice_get x column ≡ Some (Number key) → ties (before (by_key column)) z x ≡ true → RisesFrom column low rows → key ≤ℤ low →
+none_tie : (column : ℕ) (z x : List Value) (low key : ℤ) (rows : List (List Value)) → slice_get x column ≡ Some (Number key) →
+    ties (before (by_key column)) z x ≡ true → RisesFrom column low rows → key ≤ℤ low →
     filter (ties (before (by_key column)) z) rows ≡ []
 none_tie column z x low key [] at tied rise below = refl
 none_tie column z x low key (row ∷ rows) at tied (next, there, above, rest) below =
@@ -65,7 +68,8 @@ none_tie column z x low key (row ∷ rows) at tied (next, there, above, rest) be
       | inr other ↦ rw other (none_tie column z x next key rows at tied rest (omega (arith, ints)))
     ]
 
-few_from : (column : ℕ) (z : List Value) (low : ℤ) (rows : List (List Value)) → RisesFrom column low rows → length (filter (ties (before (by_key column)) z) rows) ≤ 1
+few_from : (column : ℕ) (z : List Value) (low : ℤ) (rows : List (List Value)) → RisesFrom column low rows →
+    length (filter (ties (before (by_key column)) z) rows) ≤ 1
 few_from column z low [] rise = omega arith
 few_from column z low (row ∷ rows) (key, at, above, rest) =
     elim (cases_Bool (ties (before (by_key column)) z row)) [
@@ -114,7 +118,8 @@ only_one x y (zero, within, is) = ap (λ z. z ∷ []) is
 only_one x y (suc k, within, is) = absurd (omega arith)
 
 -- lists with the same elements have the same one that passes, where there is one at most
-same_one : {X : Type 0} (p : X → Bool) (xs ys kept few : List X) → IsPermutation xs ys → filter p xs ≡ kept → filter p ys ≡ few → length few ≤ 1 → length few ≡ length kept → few ≡ kept
+same_one : {X : Type 0} (p : X → Bool) (xs ys kept few : List X) → IsPermutation xs ys → filter p xs ≡ kept → filter p ys ≡ few → length few ≤ 1 →
+    length few ≡ length kept → few ≡ kept
 same_one p xs ys [] [] moved is_kept is_few small count = refl
 same_one p xs ys [] (y ∷ few) moved is_kept is_few small count = absurd (omega arith)
 same_one p xs ys (x ∷ kept) [] moved is_kept is_few small count = absurd (omega arith)

@@ -30,7 +30,8 @@ ties_itself lt o x =
       | inr other ↦ rw other refl
     ]
 
-not_first : {X : Type 0} (lt : X → X → Bool) (o : IsStrictWeakOrder lt) (y x : X) (ys : List X) → IsSortedBy lt (y ∷ ys) → Contains (y ∷ ys) x → lt x y ≡ false
+not_first : {X : Type 0} (lt : X → X → Bool) (o : IsStrictWeakOrder lt) (y x : X) (ys : List X) → IsSortedBy lt (y ∷ ys) → Contains (y ∷ ys) x →
+    lt x y ≡ false
 not_first lt o y x ys up there =
     subst (λ (z : _). lt z y ≡ false) there.2 (sorted_far lt o (y ∷ ys) up 0 there.0 x (omega arith) there.1)
 
@@ -39,7 +40,8 @@ same_tail true x xs ys same = let both : x ∷ xs ≡ x ∷ ys = same in cc
 same_tail false x xs ys same = same
 
 -- two sorted lists in which the same elements tie with each are one
-pub one_list : {X : Type 0} (lt : X → X → Bool) (o : IsStrictWeakOrder lt) (xs ys : List X) → IsSortedBy lt xs → IsSortedBy lt ys → ((z : X) → filter (ties lt z) xs ≡ filter (ties lt z) ys) → xs ≡ ys
+pub one_list : {X : Type 0} (lt : X → X → Bool) (o : IsStrictWeakOrder lt) (xs ys : List X) → IsSortedBy lt xs → IsSortedBy lt ys →
+    ((z : X) → filter (ties lt z) xs ≡ filter (ties lt z) ys) → xs ≡ ys
 one_list lt o [] [] up rise alike = refl
 one_list lt o [] (y ∷ ys) up rise alike =
     absurd (let found : [] ≡ y ∷ filter (ties lt y) ys = rw (ties_itself lt o y) at (alike y) in cc)

@@ -26,7 +26,9 @@ cell column row = option_map_or literal_of (slice_get row column) literal.Null
 
 -- by one column, rising or falling
 abbrev pub sort_cmp : Sort → List Value → List Value → Ordering
-sort_cmp sort left right = if sort.rising then cell_cmp (cell sort.column left) (cell sort.column right) else cell_cmp (cell sort.column right) (cell sort.column left)
+sort_cmp sort left right =
+    if sort.rising then cell_cmp (cell sort.column left) (cell sort.column right)
+    else cell_cmp (cell sort.column right) (cell sort.column left)
 
 -- by the columns in turn
 abbrev pub rows_cmp : List Sort → List Value → List Value → Ordering

@@ -30,4 +30,5 @@ Rises column (row ∷ rows) = (key : ℤ) × (slice_get row column ≡ Some (Num
 
 -- rows of which no two have one key merge to the one list with these rows that rises by key
 abbrev pub KeysMerge : Type 0
-KeysMerge = (column : ℕ) (rows sorted rising : List (List Value)) → IsInOrder (record { column = column; rising = true } ∷ []) rows sorted → IsPermutation rows rising → Rises column rising → sorted ≡ rising
+KeysMerge = (column : ℕ) (rows sorted rising : List (List Value)) → IsInOrder (record { column = column; rising = true } ∷ []) rows sorted →
+    IsPermutation rows rising → Rises column rising → sorted ≡ rising

@@ -16,7 +16,8 @@ abbrev Apart : List ColumnDef → Type 0
 Apart columns = (i j : ℕ) (a b : ColumnDef) → slice_get columns i ≡ Some a → slice_get columns j ≡ Some b → a.name ≡ b.name → i ≡ j
 
 -- where none is found, none has the name
-none_named : (name : List ℕ) (columns : List ColumnDef) (j : ℕ) (b : ColumnDef) → is_none (find (is_named name) columns) ≡ true → slice_get columns j ≡ Some b → b.name ≡ name → ⊥
+none_named : (name : List ℕ) (columns : List ColumnDef) (j : ℕ) (b : ColumnDef) → is_none (find (is_named name) columns) ≡ true →
+    slice_get columns j ≡ Some b → b.name ≡ name → ⊥
 none_named name [] j b none at same = let no : None ≡ Some b = at in cc
 none_named name (c ∷ columns) zero b none at same =
     let named : is_named name c ≡ true = (bytes_decides c.name name).1 (let is : c ≡ b = cc in ap (λ (d : ColumnDef). d.name) is ∙ same) in
@@ -42,7 +43,8 @@ apart_from (c ∷ columns) test (suc i) (suc j) a b at there same =
     ap (λ (n : ℕ). suc n) places
 
 -- what is found has the name, and stands somewhere
-found_named : (name : List ℕ) (columns : List ColumnDef) → is_none (find (is_named name) columns) ≡ false → (j : ℕ) × (b : ColumnDef) × (slice_get columns j ≡ Some b) × (b.name ≡ name)
+found_named : (name : List ℕ) (columns : List ColumnDef) → is_none (find (is_named name) columns) ≡ false →
+    (j : ℕ) × (b : ColumnDef) × (slice_get columns j ≡ Some b) × (b.name ≡ name)
 found_named name [] found = absurd (both_ways true found refl)
 found_named name (c ∷ columns) found =
     elim (cases_Bool (is_named name c)) [
@@ -67,15 +69,18 @@ kind_is : (kind : Kind) → is_number_kind kind ≡ true → kind ≡ BigInt
 kind_is BigInt test = refl
 kind_is (VarChar most) test = absurd (both_ways false refl test)
 
-key_from : (found : Option ColumnDef) → option_map_or (λ (column : ColumnDef). is_number_kind column.kind) found false ≡ true → IsSomeAnd found (λ (column : ColumnDef). column.kind ≡ BigInt)
+key_from : (found : Option ColumnDef) → option_map_or (λ (column : ColumnDef). is_number_kind column.kind) found false ≡ true →
+    IsSomeAnd found (λ (column : ColumnDef). column.kind ≡ BigInt)
 key_from None test = absurd (both_ways false refl test)
 key_from (Some column) test = kind_is column.kind test
 
-key_test : (found : Option ColumnDef) → IsSomeAnd found (λ (column : ColumnDef). column.kind ≡ BigInt) → option_map_or (λ (column : ColumnDef). is_number_kind column.kind) found false ≡ true
+key_test : (found : Option ColumnDef) → IsSomeAnd found (λ (column : ColumnDef). column.kind ≡ BigInt) →
+    option_map_or (λ (column : ColumnDef). is_number_kind column.kind) found false ≡ true
 key_test None is = absurd is
 key_test (Some column) is = ap is_number_kind is
 
-pub IsTable-from_tests : (table : TableDef) → length table.columns < 2 ^ 32 → has_number_key table ≡ true → are_apart table.columns ≡ true → IsTable table
+pub IsTable-from_tests : (table : TableDef) → length table.columns < 2 ^ 32 → has_number_key table ≡ true → are_apart table.columns ≡ true →
+    IsTable table
 IsTable-from_tests table few key apart = record {
   apart = apart_from table.columns apart;
   few = few;
@@ -89,7 +94,8 @@ pub apart_of_table : (table : TableDef) → IsTable table → are_apart table.co
 apart_of_table table is = apart_test table.columns is.apart
 
 -- the tests together
-pub IsTable-decided : (table : TableDef) (columns : List ColumnDef) (differ key : Bool) → columns ≡ table.columns → length columns < 2 ^ 32 → key ≡ true → key ≡ has_number_key table → differ ≡ are_apart columns
+pub IsTable-decided : (table : TableDef) (columns : List ColumnDef) (differ key : Bool) → columns ≡ table.columns → length columns < 2 ^ 32 →
+    key ≡ true → key ≡ has_number_key table → differ ≡ are_apart columns
     → (differ ≡ true → IsTable table) × (IsTable table → differ ≡ true)
 IsTable-decided table columns differ key same few is_key key_test apart_test =
     let apart : differ ≡ are_apart table.columns = apart_test ∙ ap are_apart same in

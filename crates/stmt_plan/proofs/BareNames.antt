@@ -93,14 +93,16 @@ operand_same table n row (operand.Literal l) known = refl
 abbrev Same : TableDef → List ℕ → List Value → Cond → Type 0
 Same table n row c = AreKnown table n (cond_columns c) → cond_holds (table ∷ []) row (unqualified c) ≡ cond_holds (called table n ∷ []) row c
 
-all_same : (table : TableDef) (n : List ℕ) (row : List Value) (parts : List ((c : Cond) × Same table n row c)) → AreKnown table n (flat_map (λ names. names) (map cond_columns (map (λ e. e.0) parts))) →
+all_same : (table : TableDef) (n : List ℕ) (row : List Value) (parts : List ((c : Cond) × Same table n row c)) →
+    AreKnown table n (flat_map (λ names. names) (map cond_columns (map (λ e. e.0) parts))) →
     list_all (λ b. b) (map (cond_holds (table ∷ []) row) (map unqualified (map (λ e. e.0) parts))) ≡ list_all (λ b. b) (map (cond_holds (called table n ∷ []) row) (map (λ e. e.0) parts))
 all_same table n row [] known = refl
 all_same table n row (e ∷ parts) known =
     let both = known_parts table n (cond_columns e.0) (flat_map (λ names. names) (map cond_columns (map (λ e. e.0) parts))) known in
     rw (e.1 both.0, all_same table n row parts both.1) refl
 
-any_same : (table : TableDef) (n : List ℕ) (row : List Value) (parts : List ((c : Cond) × Same table n row c)) → AreKnown table n (flat_map (λ names. names) (map cond_columns (map (λ e. e.0) parts))) →
+any_same : (table : TableDef) (n : List ℕ) (row : List Value) (parts : List ((c : Cond) × Same table n row c)) →
+    AreKnown table n (flat_map (λ names. names) (map cond_columns (map (λ e. e.0) parts))) →
     list_any (λ b. b) (map (cond_holds (table ∷ []) row) (map unqualified (map (λ e. e.0) parts))) ≡ list_any (λ b. b) (map (cond_holds (called table n ∷ []) row) (map (λ e. e.0) parts))
 any_same table n row [] known = refl
 any_same table n row (e ∷ parts) known =
@@ -118,7 +120,8 @@ holds_layer : (tables : List TableDef) (row : List Value) (c : Cond) (layer : Co
     cond_holds tables row c ≡ layer_holds tables row (map-Cond Cond Bool (cond_holds tables row) layer)
 holds_layer tables row c layer rolls = ap (cond_holds tables row) (sym rolls) ∙ fold-roll-Cond Bool (layer_holds tables row) layer
 
-layer_same : (table : TableDef) (n : List ℕ) (row : List Value) (y : Parts table n row) → AreKnown table n (layer_columns (map-Cond Cond (List ColumnName) cond_columns (bare table n row y))) →
+layer_same : (table : TableDef) (n : List ℕ) (row : List Value) (y : Parts table n row) →
+    AreKnown table n (layer_columns (map-Cond Cond (List ColumnName) cond_columns (bare table n row y))) →
     cond_holds (table ∷ []) row (bare_layer (map-Cond Cond Cond unqualified (bare table n row y))) ≡ layer_holds (called table n ∷ []) row (map-Cond Cond Bool (cond_holds (called table n ∷ []) row) (bare table n row y))
 layer_same table n row (All parts) known = holds_layer (table ∷ []) row _ (All (map unqualified (map (λ e. e.0) parts))) (rolls-All _) ∙ all_same table n row parts known
 layer_same table n row (Any parts) known = holds_layer (table ∷ []) row _ (Any (map unqualified (map (λ e. e.0) parts))) (rolls-Any _) ∙ any_same table n row parts known

@@ -37,7 +37,8 @@ none_pass p (x ∷ xs) none =
       | inr other ↦ rw other (none_pass p xs (λ j y at pass. none (suc j) y at pass))
     ]
 
-one_passes : {X : Type 0} (p : X → Bool) (xs : List X) → ((i j : ℕ) (x y : X) → slice_get xs i ≡ Some x → slice_get xs j ≡ Some y → p x ≡ true → p y ≡ true → i ≡ j) → length (filter p xs) ≤ 1
+one_passes : {X : Type 0} (p : X → Bool) (xs : List X) →
+    ((i j : ℕ) (x y : X) → slice_get xs i ≡ Some x → slice_get xs j ≡ Some y → p x ≡ true → p y ≡ true → i ≡ j) → length (filter p xs) ≤ 1
 one_passes p [] one = omega arith
 one_passes p (x ∷ xs) one =
     elim (cases_Bool (p x)) [
@@ -67,7 +68,8 @@ none_found : (test : ColumnName → Bool) (names : List ColumnName) → ((name :
 none_found test [] never = refl
 none_found test (name ∷ names) never = rw (never name) (none_found test names never)
 
-none_ambiguous : (table : TableDef) (n : List ℕ) (names : List ColumnName) → IsTable table → first_column (is_ambiguous (called table n ∷ [])) names ≡ None
+none_ambiguous : (table : TableDef) (n : List ℕ) (names : List ColumnName) → IsTable table →
+    first_column (is_ambiguous (called table n ∷ [])) names ≡ None
 unfolding first_column
 none_ambiguous table n names is = rw (none_found (is_ambiguous (called table n ∷ [])) names (λ name. not_ambiguous table n name is)) refl
 
@@ -104,10 +106,12 @@ refusal_by table n items (Some c) is =
     (first-append (is_unknown (called table n ∷ [])) (item_columns items) (cond_columns c)) (none_ambiguous table n (item_columns items ++ cond_columns c) is)
     (none_ambiguous table n (cond_columns c) is)
 
-pub refusal_of_select : (table : TableDef) (rule : Rule) (select : Select) → IsTable table → refusal table rule (statement.Select select) ≡ chosen_fault table select
+pub refusal_of_select : (table : TableDef) (rule : Rule) (select : Select) → IsTable table →
+    refusal table rule (statement.Select select) ≡ chosen_fault table select
 refusal_of_select table rule select is = refusal_by table (known_name select.tab) select.items select.cond is
 
-pub told_of_select : (table : TableDef) (rule : Rule) (s : Statement) (select : Select) (fault : StmtFault) → IsTable table → s ≡ statement.Select select →
+pub told_of_select : (table : TableDef) (rule : Rule) (s : Statement) (select : Select) (fault : StmtFault) → IsTable table →
+    s ≡ statement.Select select →
     (fault ≡ NoMemory) ⊎ (chosen_fault table select ≡ Some fault) → (fault ≡ NoMemory) ⊎ (refusal table rule s ≡ Some fault)
 told_of_select table rule s select fault is selects (inl none) = inl none
 told_of_select table rule s select fault is selects (inr found) = inr (ap (refusal table rule) selects ∙ refusal_of_select table rule select is ∙ found)

@@ -54,11 +54,13 @@ big_int_fits : (z : ℤ) → is_big_int z ≡ true → FitsSigned w64 z
 big_int_fits (pos n) small = grind (arith, ints)
 big_int_fits (negsuc n) small = grind (arith, ints)
 
-number_held : (b : Bool) (z : ℤ) (fault : StoreFault) → (b ≡ true → is_big_int z ≡ true) → is_big_int (number_of (held (cond {A = Result Value StoreFault} b (Ok (value.Number z)) (Err fault)))) ≡ true
+number_held : (b : Bool) (z : ℤ) (fault : StoreFault) → (b ≡ true → is_big_int z ≡ true) →
+    is_big_int (number_of (held (cond {A = Result Value StoreFault} b (Ok (value.Number z)) (Err fault)))) ≡ true
 number_held true z fault small = small refl
 number_held false z fault small = refl
 
-text_held : (b : Bool) (t : List ℕ) (fault : StoreFault) → is_big_int (number_of (held (cond {A = Result Value StoreFault} b (Ok (value.Text t)) (Err fault)))) ≡ true
+text_held : (b : Bool) (t : List ℕ) (fault : StoreFault) →
+    is_big_int (number_of (held (cond {A = Result Value StoreFault} b (Ok (value.Text t)) (Err fault)))) ≡ true
 text_held true t fault = refl
 text_held false t fault = refl
 
@@ -70,7 +72,8 @@ held_fits (literal.Number z) (VarChar most) = refl
 held_fits (literal.Text t) BigInt = refl
 held_fits (literal.Text t) (VarChar most) = text_held (is_within most t) t _
 
-slot_fits : (literals : List Literal) (slot : Option (ColumnDef × Option ℕ)) → is_big_int (option_map_or number_of (option_map (slot_value literals) slot) (pos 0)) ≡ true
+slot_fits : (literals : List Literal) (slot : Option (ColumnDef × Option ℕ)) →
+    is_big_int (option_map_or number_of (option_map (slot_value literals) slot) (pos 0)) ≡ true
 slot_fits literals None = refl
 slot_fits literals (Some (column, place)) = held_fits (unwrap_or (option_and_then (slice_get literals) place) literal.Null) column.kind
 

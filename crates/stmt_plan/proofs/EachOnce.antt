@@ -26,7 +26,8 @@ none_count p (x ∷ xs) none =
     ]
 
 -- of columns with different names one has a name that is known
-one_count : (name : List ℕ) (columns : List ColumnDef) → are_apart columns ≡ true → is_none (find (is_named name) columns) ≡ false → count_by (is_named name) columns ≡ 1
+one_count : (name : List ℕ) (columns : List ColumnDef) → are_apart columns ≡ true → is_none (find (is_named name) columns) ≡ false →
+    count_by (is_named name) columns ≡ 1
 one_count name [] apart known = absurd (both_ways true known refl)
 one_count name (c ∷ columns) apart known =
     let both = and_parts (is_none (find (is_named c.name) columns)) (are_apart columns) apart in
@@ -50,7 +51,8 @@ known_first name false rest none = (refl, none)
 abbrev AreKnown : List ColumnDef → List (List ℕ) → Type 0
 AreKnown columns names = find (λ name. is_none (find (is_named name) columns)) names ≡ None
 
-ones : (columns : List ColumnDef) (names : List (List ℕ)) → are_apart columns ≡ true → AreKnown columns names → sum_by (λ name. count_by (is_named name) columns) names ≡ length names
+ones : (columns : List ColumnDef) (names : List (List ℕ)) → are_apart columns ≡ true → AreKnown columns names →
+    sum_by (λ name. count_by (is_named name) columns) names ≡ length names
 ones columns [] apart known = refl
 ones columns (name ∷ names) apart known =
     let both = known_first name (is_none (find (is_named name) columns)) _ known in
@@ -74,13 +76,15 @@ nothing : (names : List (List ℕ)) → sum_by (λ (name : List ℕ). count_by (
 nothing [] = refl
 nothing (name ∷ names) = rw (sum_by-cons (λ n. count_by (is_named n) []) name names) (zero-add (sum_by (λ (n : List ℕ). count_by (is_named n) []) names) ∙ nothing names)
 
-both_counts : (columns : List ColumnDef) (names : List (List ℕ)) → sum_by (times names) columns ≡ sum_by (λ name. count_by (is_named name) columns) names
+both_counts : (columns : List ColumnDef) (names : List (List ℕ)) →
+    sum_by (times names) columns ≡ sum_by (λ name. count_by (is_named name) columns) names
 both_counts [] names = sym (nothing names)
 both_counts (c ∷ columns) names =
     rw (sum_by-cons (times names) c columns, row_added c columns names, both_counts columns names) refl
 
 -- of the columns that a list names, as many as it has names, and each as often
-found_column : (name : List ℕ) (columns : List ColumnDef) → is_none (find (is_named name) columns) ≡ false → (t : ColumnDef) × (find (is_named name) columns ≡ Some t) × (t.name ≡ name)
+found_column : (name : List ℕ) (columns : List ColumnDef) → is_none (find (is_named name) columns) ≡ false →
+    (t : ColumnDef) × (find (is_named name) columns ≡ Some t) × (t.name ≡ name)
 found_column name [] known = absurd (both_ways true known refl)
 found_column name (c ∷ columns) known =
     elim (cases_Bool (is_named name c)) [
@@ -90,7 +94,8 @@ found_column name (c ∷ columns) known =
           (later.0, rw other later.1, later.2)
     ]
 
-targets_counted : (columns : List ColumnDef) (names : List (List ℕ)) (c : ColumnDef) → AreKnown columns names → (length (targets columns (Some names)) ≡ length names) × (count_by (is_named c.name) (targets columns (Some names)) ≡ times names c)
+targets_counted : (columns : List ColumnDef) (names : List (List ℕ)) (c : ColumnDef) → AreKnown columns names →
+    (length (targets columns (Some names)) ≡ length names) × (count_by (is_named c.name) (targets columns (Some names)) ≡ times names c)
 targets_counted columns [] c known = (refl, refl)
 targets_counted columns (name ∷ names) c known =
     let both = known_first name (is_none (find (is_named name) columns)) _ known in
@@ -114,7 +119,8 @@ placed_count : {X : Type 0} (p : X → Bool) (xs : List X) (d : X) (place : Opti
 placed_count p xs d None found there = absurd (both_ways false refl there)
 placed_count p xs d (Some i) found there = let at = position-Some p xs i d found in count_at p xs i d at.0 at.1
 
-all_placed : (columns among : List ColumnDef) → list_all (λ (slot : ColumnDef × Option ℕ). is_some slot.1) (slots columns among) ≡ true → (c : ColumnDef) → Contains columns c → is_some (position (is_named c.name) among) ≡ true
+all_placed : (columns among : List ColumnDef) → list_all (λ (slot : ColumnDef × Option ℕ). is_some slot.1) (slots columns among) ≡ true →
+    (c : ColumnDef) → Contains columns c → is_some (position (is_named c.name) among) ≡ true
 all_placed [] among all c there = absurd (omega (arith, there.1))
 all_placed (x ∷ columns) among all c (zero, within, is) =
     subst (λ (d : ColumnDef). is_some (position (is_named d.name) among) ≡ true) is (and_parts (is_some (position (is_named x.name) among)) _ all).0

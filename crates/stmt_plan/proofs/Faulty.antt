@@ -12,7 +12,8 @@ use Rattle.sql_values.specs.Checks.{checked_cond}
 use Rattle.stmt_plan.specs.Chosen.{cond_fault}
 use Rattle.stmt_plan.specs.Faults.{fault_of_check}
 
-pub checked_fault : (cond : Cond) (table : TableDef) (tables : List TableDef) (fault : CheckFault) (told : StmtFault) → tables ≡ table ∷ [] → told ≡ fault_of_check fault →
+pub checked_fault : (cond : Cond) (table : TableDef) (tables : List TableDef) (fault : CheckFault) (told : StmtFault) → tables ≡ table ∷ [] →
+    told ≡ fault_of_check fault →
     (fault ≡ check.NoMemory) ⊎ (checked_cond cond tables ≡ Err fault) → (told ≡ NoMemory) ⊎ (cond_fault table cond ≡ Some told)
 checked_fault cond table tables fault told only is (inl none) = inl (is ∙ ap fault_of_check none)
 checked_fault cond table tables fault told only is (inr found) =

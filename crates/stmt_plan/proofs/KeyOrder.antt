@@ -18,5 +18,6 @@ rising_of keys sorted moved up = record {
   );
 }
 
-pub AreRising-sorted : (keys sorted rising : List ℤ) → IsPermutation keys sorted → IsSorted int_cmp sorted → rising ≡ dedup int_eq sorted → AreRising rising keys
+pub AreRising-sorted : (keys sorted rising : List ℤ) → IsPermutation keys sorted → IsSorted int_cmp sorted → rising ≡ dedup int_eq sorted →
+    AreRising rising keys
 AreRising-sorted keys sorted rising moved up is = subst (λ (r : List ℤ). AreRising r keys) (sym is) (rising_of keys sorted moved up)

@@ -7,11 +7,13 @@ use Rattle.sql_values.specs.declared.tree.ColumnName.{ColumnName}
 use Rattle.sql_values.specs.Checks.{first_column}
 use Rattle.std.proofs.Common.{Option}
 
-map_or : {X Y : Type 0} (f : X → Y) (first second : Option X) → option_map f (option_or first second) ≡ option_or (option_map f first) (option_map f second)
+map_or : {X Y : Type 0} (f : X → Y) (first second : Option X) →
+    option_map f (option_or first second) ≡ option_or (option_map f first) (option_map f second)
 map_or f None second = refl
 map_or f (Some x) second = refl
 
-pub first-append : (test : ColumnName → Bool) (xs ys : List ColumnName) → first_column test (xs ++ ys) ≡ option_or (first_column test xs) (first_column test ys)
+pub first-append : (test : ColumnName → Bool) (xs ys : List ColumnName) →
+    first_column test (xs ++ ys) ≡ option_or (first_column test xs) (first_column test ys)
 unfolding first_column
 first-append test xs ys = rw find-append (map_or (λ (name : ColumnName). name.column) (find test xs) (find test ys))
 
