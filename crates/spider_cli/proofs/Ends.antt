@@ -14,7 +14,7 @@ use Rattle.spider_cli.specs.Run.{transcript}
 use Rattle.spider_cli.specs.Playing.{Plays}
 use Rattle.spider_cli.specs.Wire.{Wires}
 use Rattle.spider_cli.specs.Outcome.{code_of}
-use Rattle.spider_cli.specs.Top.{Form, Check, Play, Wire, form_of, WritesFront, WiresFront, ChecksFront, IsIdle, FrontBy, WholeBy, StopsAt, IsRefused, IsStarted, Does, RunsOn, Checks, DoesOn, Did, Runs}
+use Rattle.spider_cli.specs.Top.{Form, Check, Play, Wire, form_of, WritesFront, WiresFront, LinksFront, IsIdle, FrontBy, WholeBy, StopsAt, IsRefused, IsStarted, Does, RunsOn, Checked, DoesOn, Did, Runs}
 
 -- What the cases of an outcome have in common.
 
@@ -46,7 +46,7 @@ module _ {F S K : Type 0} (holds : F → List ℕ → Option (List ℕ) → Type
 
   idle : (form : Option Form) → Idle → Front form
   idle None i = i
-  idle (Some (Check path)) i = inl i
+  idle (Some (Check path)) i = (i.0, inl i.1)
   idle (Some (Play path)) i = record {
     read = [];
     written = [];
@@ -96,18 +96,18 @@ module _ {F S K : Type 0} (holds : F → List ℕ → Option (List ℕ) → Type
   run_front conf form outcome.Usage d = absurd d
 
   -- one that is checked
-  check_front : (conf path : List ℕ) (how : Outcome) → Checks gives has_ended read_faults takes write_faults source rest sink full conf how → Front (Some (Check path))
-  check_front conf path outcome.Done d = inr (record { catalog = d.0; written = links_text d.0; unread = d.2.unread; taken = d.2.taken; front = ([], sym (append-nil (links_text d.0))) })
-  check_front conf path (outcome.Fault object.Output) d = inr d.1
-  check_front conf path (outcome.Fault object.Input) d = absurd d
-  check_front conf path (outcome.Fault object.Conf) d = absurd d
-  check_front conf path (outcome.Refused line rule) d = absurd d
-  check_front conf path (outcome.Conf rule) d = inl d.1
-  check_front conf path outcome.NoMemory d = inl d
-  check_front conf path outcome.Usage d = absurd d
+  check_front : (conf : List ℕ) (how : Outcome) → Checked takes write_faults sink full conf how → (full ≡ sink) ⊎ LinksFront takes sink full
+  check_front conf outcome.Done d = inr (record { catalog = d.0; written = links_text d.0; taken = d.2; front = ([], sym (append-nil (links_text d.0))) })
+  check_front conf (outcome.Fault object.Output) d = inr d.1
+  check_front conf (outcome.Fault object.Input) d = absurd d
+  check_front conf (outcome.Fault object.Conf) d = absurd d
+  check_front conf (outcome.Refused line rule) d = absurd d
+  check_front conf (outcome.Conf rule) d = inl d.1
+  check_front conf outcome.NoMemory d = inl d
+  check_front conf outcome.Usage d = absurd d
 
   on_front : (conf : List ℕ) (form : Form) (how : Outcome) → DoesOn gives has_ended read_faults takes write_faults source rest sink full conf form how → Front (Some form)
-  on_front conf (Check path) how d = check_front conf path how d
+  on_front conf (Check path) how d = (d.0, check_front conf how d.1)
   on_front conf (Play path) how d = run_front conf (Play path) how d
   on_front conf (Wire path) how d = run_front conf (Wire path) how d
 
@@ -152,7 +152,7 @@ module _ {F S K : Type 0} (holds : F → List ℕ → Option (List ℕ) → Type
       }
 
   whole_on : (conf : List ℕ) (form : Form) → DoesOn gives has_ended read_faults takes write_faults source rest sink full conf form outcome.Done → Whole (Some form)
-  whole_on conf (Check path) d = (d.0, d.2)
+  whole_on conf (Check path) d = (d.0, (d.1.0, d.1.2))
   whole_on conf (Play path) d = whole_by (Play path) d.1
   whole_on conf (Wire path) d = whole_by (Wire path) d.1
 
@@ -193,12 +193,12 @@ module _ {F S K : Type 0} (holds : F → List ℕ → Option (List ℕ) → Type
   usage_only (outcome.Refused line rule) e r = absurd (cc)
 
   input_rose : (conf : List ℕ) (form : Form) → DoesOn gives has_ended read_faults takes write_faults source rest sink full conf form (outcome.Fault object.Input) → HasRisen (read_faults source) (read_faults rest)
-  input_rose conf (Check path) d = absurd d
+  input_rose conf (Check path) d = absurd d.1
   input_rose conf (Play path) d = d.1.0
   input_rose conf (Wire path) d = d.1.0
 
   output_rose : (conf : List ℕ) (form : Form) → DoesOn gives has_ended read_faults takes write_faults source rest sink full conf form (outcome.Fault object.Output) → HasRisen (write_faults sink) (write_faults full)
-  output_rose conf (Check path) d = d.0
+  output_rose conf (Check path) d = d.1.0
   output_rose conf (Play path) d = d.1.0
   output_rose conf (Wire path) d = d.1.0
 
@@ -228,7 +228,7 @@ module _ {F S K : Type 0} (holds : F → List ℕ → Option (List ℕ) → Type
   stopped (Check path) line rule d = absurd d
 
   stopped_on : (conf : List ℕ) (form : Form) (line : ℕ) (rule : LineRule) → DoesOn gives has_ended read_faults takes write_faults source rest sink full conf form (outcome.Refused line rule) → StopsAt gives has_ended takes source rest sink full line rule
-  stopped_on conf (Check path) line rule d = absurd d
+  stopped_on conf (Check path) line rule d = absurd d.1
   stopped_on conf (Play path) line rule d = stopped (Play path) line rule d.1
   stopped_on conf (Wire path) line rule d = stopped (Wire path) line rule d.1
 

@@ -61,6 +61,28 @@ form_of (word ∷ path ∷ other ∷ words) = None
 abbrev pub Says : {K : Type 0} → (K → List ℕ → K → Type 0) → (K → ℕ) → K → List ℕ → K → Type 0
 Says takes faults old text new = TakesFront takes old text new × (takes old text new ⊎ HasRisen (faults old) (faults new))
 
+-- WHAT IS SAID OF A CONFIGURATION
+
+module _ {K : Type 0} (takes : K → List ℕ → K → Type 0) (sink full : K) where
+  -- what was written is a front of what is said of a catalog's links
+  pub record LinksFront : Type 0 where
+    pub catalog : View
+    pub written : List ℕ
+    pub taken : takes sink written full
+    pub front : IsFront written (links_text catalog)
+
+module _ {K : Type 0} (takes : K → List ℕ → K → Type 0) (write_faults : K → ℕ) (sink full : K) where
+  -- a configuration was checked: its links were written, or it breaks a rule, and then nothing was
+  abbrev pub Checked : List ℕ → Outcome → Type 0
+  Checked conf (outcome.Conf rule) = Breaks conf rule × (full ≡ sink)
+  Checked conf outcome.Done = (catalog : View) × IsCatalog conf catalog × takes sink (links_text catalog) full
+  Checked conf (outcome.Fault object.Output) = HasRisen (write_faults sink) (write_faults full) × (front : LinksFront takes sink full) × IsCatalog conf front.catalog
+  Checked conf (outcome.Fault object.Input) = ⊥
+  Checked conf (outcome.Fault object.Conf) = ⊥
+  Checked conf (outcome.Refused line rule) = ⊥
+  Checked conf outcome.NoMemory = full ≡ sink
+  Checked conf outcome.Usage = ⊥
+
 -- WHAT A CALL OF THE PROGRAM READ AND WROTE
 
 module _ {S K : Type 0} (gives : S → List ℕ → S → Type 0) (has_ended : S → Type 0) (takes : K → List ℕ → K → Type 0) (source rest : S) (sink full : K) where
@@ -120,29 +142,16 @@ module _ {S K : Type 0} (gives : S → List ℕ → S → Type 0) (has_ended : S
   abbrev pub IsIdle : Type 0
   IsIdle = (rest ≡ source) × (full ≡ sink)
 
-  -- what was written is a front of what is said of a catalog's links, and nothing was read
-  pub record ChecksFront : Type 0 where
-    pub catalog : View
-    pub written : List ℕ
-    pub unread : rest ≡ source
-    pub taken : takes sink written full
-    pub front : IsFront written (links_text catalog)
-
-  -- it is the whole
-  pub record ChecksWhole (catalog : View) : Type 0 where
-    pub unread : rest ≡ source
-    pub taken : takes sink (links_text catalog) full
-
   -- by the form of the words
   abbrev pub FrontBy : Option Form → Type 0
   FrontBy None = IsIdle
-  FrontBy (Some (Check path)) = IsIdle ⊎ ChecksFront
+  FrontBy (Some (Check path)) = (rest ≡ source) × ((full ≡ sink) ⊎ LinksFront takes sink full)
   FrontBy (Some (Play path)) = WritesFront
   FrontBy (Some (Wire path)) = WiresFront
 
   abbrev pub WholeBy : Option Form → Type 0
   WholeBy None = ⊥
-  WholeBy (Some (Check path)) = (catalog : View) × ChecksWhole catalog
+  WholeBy (Some (Check path)) = (rest ≡ source) × (catalog : View) × takes sink (links_text catalog) full
   WholeBy (Some (Play path)) = WritesWhole
   WholeBy (Some (Wire path)) = WiresWhole
 
@@ -218,20 +227,9 @@ module _ {S K : Type 0} (gives : S → List ℕ → S → Type 0) (has_ended : S
   RunsOn conf form outcome.NoMemory = IsIdle gives has_ended takes source rest sink full ⊎ ((conf ≡ FIRST_CONF.now) × Does form outcome.NoMemory)
   RunsOn conf form outcome.Usage = ⊥
 
-  -- a configuration was checked: its links were written, or it breaks a rule, and then nothing was
-  abbrev pub Checks : List ℕ → Outcome → Type 0
-  Checks conf (outcome.Conf rule) = Breaks conf rule × IsIdle gives has_ended takes source rest sink full
-  Checks conf outcome.Done = (catalog : View) × IsCatalog conf catalog × ChecksWhole gives has_ended takes source rest sink full catalog
-  Checks conf (outcome.Fault object.Output) = HasRisen (write_faults sink) (write_faults full) × (front : ChecksFront gives has_ended takes source rest sink full) × IsCatalog conf front.catalog
-  Checks conf (outcome.Fault object.Input) = ⊥
-  Checks conf (outcome.Fault object.Conf) = ⊥
-  Checks conf (outcome.Refused line rule) = ⊥
-  Checks conf outcome.NoMemory = IsIdle gives has_ended takes source rest sink full
-  Checks conf outcome.Usage = ⊥
-
   -- by the form of the words, on any configuration
   abbrev pub DoesOn : List ℕ → Form → Outcome → Type 0
-  DoesOn conf (Check path) how = Checks conf how
+  DoesOn conf (Check path) how = (rest ≡ source) × Checked takes write_faults sink full conf how
   DoesOn conf (Play path) how = RunsOn conf (Play path) how
   DoesOn conf (Wire path) how = RunsOn conf (Wire path) how
 

@@ -14,7 +14,7 @@ ghost use Rattle.std.specs.Prelude.{◌≡◌, ◌≢◌, ◌↔◌, ◌⊎◌, 
 ghost use Rattle.my_wire.specs.Counts.{HasRisen};
 ghost use Rattle.spider_cli.specs.History.{IsPlain};
 ghost use Rattle.spider_cli.specs.Outcome.{code_of, text_of};
-ghost use Rattle.spider_cli.specs.Top.{Check, Play, Wire, form_of, word_form, path_of, DoesOn, Runs, Says, FrontBy, WholeBy, StopsAt, IsRefused, IsUnrun, RunsOn, Checks};
+ghost use Rattle.spider_cli.specs.Top.{Check, Play, Wire, form_of, word_form, path_of, DoesOn, Runs, Says, FrontBy, WholeBy, StopsAt, IsRefused, IsUnrun, RunsOn, Checked};
 ghost use Rattle.catalog.specs.Conf.{IsCatalog};
 ghost use Rattle.spider_cli.specs.Forms.{form_view};
 ghost use Rattle.spider_cli.specs.declared.outcome.Outcome.{Outcome};
@@ -136,7 +136,7 @@ fn wire_on<I: Source, O: Sink>(alloc: Global, conf: &[u8], input: &mut I, out: &
 
 /// Writes the links of a catalog.
 fn write_links<O: Sink>(alloc: Global, catalog: &Catalog, out: &mut O) -> Outcome
-    ensures { (conf : List ℕ) → IsCatalog conf catalog.now → (S : Type 0) (gives : S → List ℕ → S → Type 0) (has_ended : S → Type 0) (read_faults : S → ℕ) (source : S) → Checks gives has_ended read_faults O.takes O.faults source source out.old out.new conf result }
+    ensures { (conf : List ℕ) → IsCatalog conf catalog.now → Checked O.takes O.faults out.old out.new conf result }
 {
     let Ok(text) = links_text(alloc, catalog) else {
         return Outcome::NoMemory;
@@ -149,7 +149,7 @@ fn write_links<O: Sink>(alloc: Global, catalog: &Catalog, out: &mut O) -> Outcom
 
 /// Checks a configuration.
 fn check_on<O: Sink>(alloc: Global, conf: &[u8], out: &mut O) -> Outcome
-    ensures { (S : Type 0) (gives : S → List ℕ → S → Type 0) (has_ended : S → Type 0) (read_faults : S → ℕ) (source : S) → Checks gives has_ended read_faults O.takes O.faults source source out.old out.new conf.now result }
+    ensures { Checked O.takes O.faults out.old out.new conf.now result }
 {
     match read_catalog(alloc, conf) {
         Ok(catalog) => write_links(alloc, &catalog, out),
