@@ -120,8 +120,8 @@ parts_sound servers table own [] parts h = whole_sound servers table own parts h
 parts_sound servers table own (e ∷ es) parts h = record {
   count = each_length (part_of servers table own) (e ∷ es) parts h;
   links = λ p part at.
-    let from = each_at (part_of servers table own) (e ∷ es) parts p part h at in
-    part_sound servers table own from.at part from.gives;
+      let from = each_at (part_of servers table own) (e ∷ es) parts p part h at in
+      part_sound servers table own from.at part from.gives;
 }
 
 made_sound : (servers : ℕ) (pieces : TableDef × (Rule × List Part)) (t : Table) → made pieces ≡ t → IsTable servers (made pieces) → IsTable servers t

@@ -56,8 +56,8 @@ def_there table named h =
     record {
       at = record { name = table.name; columns = read.at; key = key.at };
       is = ap (option_and_then (defined table)) (name_there table.name named)
-      ∙ ap (option_and_then (keyed table.name table.key)) columns
-      ∙ ap (option_map (λ (k : ℕ). record { name = table.name; columns = read.at; key = k })) place;
+          ∙ ap (option_and_then (keyed table.name table.key)) columns
+          ∙ ap (option_map (λ (k : ℕ). record { name = table.name; columns = read.at; key = k })) place;
     }
 
 -- THE RULE
@@ -149,8 +149,8 @@ part_there servers table own part named formed linked =
     record {
       at = _;
       is = ap (option_and_then (part_named servers table own part)) (name_there part.name named)
-      ∙ ap (option_and_then (part_with servers table own part.name)) comment.is
-      ∙ ap (option_map (λ (l : List Link). record { name = Some part.name; links = l })) links.is;
+          ∙ ap (option_and_then (part_with servers table own part.name)) comment.is
+          ∙ ap (option_map (λ (l : List Link). record { name = Some part.name; links = l })) links.is;
     }
 
 bad_without_parts : (a b c : Bool) → is_bad_cut (cond a Range (cond b ByList (cond c Hash Unknown))) 0 ≡ true
@@ -191,9 +191,9 @@ table_there servers table keeps =
     record {
       at = made (def.at, (made_rule.at, parts.at));
       is = ap (option_and_then (table_with servers table)) own.is
-      ∙ ap (λ o. option_map made (option_zip o (option_zip (rule_of table) (parts_by servers table.name own.at table.parts)))) def.is
-      ∙ ap (λ o. option_map made (option_zip (Some def.at) (option_zip o (parts_by servers table.name own.at table.parts)))) made_rule.is
-      ∙ ap (λ o. option_map made (option_zip (Some def.at) (option_zip (Some made_rule.at) o))) parts.is;
+          ∙ ap (λ o. option_map made (option_zip o (option_zip (rule_of table) (parts_by servers table.name own.at table.parts)))) def.is
+          ∙ ap (λ o. option_map made (option_zip (Some def.at) (option_zip o (parts_by servers table.name own.at table.parts)))) made_rule.is
+          ∙ ap (λ o. option_map made (option_zip (Some def.at) (option_zip (Some made_rule.at) o))) parts.is;
     }
 
 kept_rule : (f : Check → Option CatalogFault) → first f all_rules ≡ None → (r : Check) → f r ≡ None
