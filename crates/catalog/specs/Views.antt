@@ -1,5 +1,5 @@
 -- What contracts see of a catalog.
-use Rattle.std.specs.Prelude.{◌≡◌, ℕ, ◌==◌, ◌<◌, true, List, [], Option, Some, None, if◌then◌else◌, length, map, slice_get}
+use Rattle.std.specs.Prelude.{◌≡◌, ℕ, ◌==◌, ◌<◌, true, List, [], Option, Some, None, if◌then◌else◌, length, slice_get}
 use Rattle.std.specs.List.{filter_map, flat_map}
 use Rattle.std.specs.Option.{option_map_or}
 use Rattle.sql_values.specs.declared.table.ColumnDef.{ColumnDef}
@@ -14,7 +14,6 @@ use Rattle.catalog.specs.declared.link.Link.{Link}
 use Rattle.catalog.specs.declared.tables.Part.{Part}
 use Rattle.catalog.specs.declared.tables.Table.{Table}
 use Rattle.catalog.specs.Links.{are_links}
-use Rattle.catalog.specs.Shared.{host_name}
 
 -- each in file order
 pub record View : Type 0 where
