@@ -1,14 +1,11 @@
 -- The rule that a file breaks first.
-use Rattle.std.proofs.Common.{◌≡◌, ℕ, List, Option, Some, None, length, refl, sym, ap, ◌∙◌, subst}
+use Rattle.std.proofs.Common.{◌≡◌, ℕ, List, Option, Some, None, length, ap, ◌∙◌, subst}
 use Rattle.std.specs.Option.{option_or, option_and_then}
 use Rattle.std.proofs.lemmas.List.{length-map}
 use Rattle.conf_file.specs.declared.entries.ConfFile.{ConfFile}
-use Rattle.conf_file.specs.declared.entries.TableEntry.{TableEntry}
 use Rattle.catalog.specs.declared.fault.CatalogFault.{CatalogFault}
 use Rattle.catalog.specs.declared.tables.Table.{Table}
-use Rattle.catalog.specs.Broken.{broken_by, all_rules}
 use Rattle.catalog.specs.Files.{broken_table, broken}
-use Rattle.catalog.specs.Searches.{each, first}
 use Rattle.catalog.specs.Shared.{shared_remote, host_name}
 use Rattle.catalog.specs.Tables.{server_names, table_of, catalog_entries}
 use Rattle.catalog.specs.Views.{AreTables}

@@ -1,7 +1,7 @@
 -- The key that is found among columns.
-use Rattle.std.proofs.Common.{◌≡◌, ℕ, suc, zero, ◌+◌, ◌<◌, Bool, true, false, cond, not, ◌&&◌, List, [], ◌∷◌, Option, Some, None, length, refl, sym, ap, ◌∙◌, subst, arith, nat_lt, ◌^◌}
+use Rattle.std.proofs.Common.{◌≡◌, ℕ, suc, zero, ◌<◌, Bool, true, false, cond, not, ◌&&◌, List, [], ◌∷◌, Some, None, length, refl, sym, ap, ◌∙◌, subst, arith, nat_lt, ◌^◌}
 use Rattle.std.specs.List.{slice_get, list_any}
-use Rattle.std.specs.Option.{option_and_then, option_map}
+use Rattle.std.specs.Option.{option_map}
 use Rattle.std.proofs.lemmas.Option.{same_Some}
 use Rattle.sql_values.specs.declared.table.ColumnDef.{ColumnDef}
 use Rattle.sql_values.specs.declared.table.Kind.{Kind}
@@ -11,7 +11,7 @@ use Rattle.part_rules.specs.KeyRows.{HasOwnKeyName}
 use Rattle.conf_file.specs.declared.entries.TableEntry.{TableEntry}
 use Rattle.catalog.specs.Columns.{columns_of, is_named, is_big_int, key_from, key_place, keyed, defined, def_of, numbered}
 use Rattle.catalog.specs.Searches.{name_of}
-use Rattle.catalog.proofs.Options.{There, there, Mapped, mapped, chosen, and_true}
+use Rattle.catalog.proofs.Options.{there, mapped, chosen, and_true}
 
 big_int : (kind : Kind) → is_big_int kind ≡ true → kind ≡ BigInt
 big_int BigInt h = refl

@@ -1,5 +1,5 @@
 -- The pieces of a comment's text, step by step.
-use Rattle.std.proofs.Common.{◌≡◌, ℕ, suc, ◌+◌, ◌-◌, ◌<◌, arith, List, ◌∷◌, Some, length, take, drop, get_or, refl, ap, sym, ◌∙◌}
+use Rattle.std.proofs.Common.{◌≡◌, ℕ, suc, ◌+◌, ◌-◌, ◌<◌, arith, List, ◌∷◌, Some, length, take, drop, get_or, refl, ap, ◌∙◌}
 use Rattle.std.proofs.lemmas.List.{append-nil, drop_more}
 use Rattle.catalog.specs.declared.comment.Comment.{Comment}
 use Rattle.catalog.specs.Comment.{pairs_at, after_step, step_at}

@@ -1,7 +1,7 @@
 -- Tables that are made are sound.
-use Rattle.std.proofs.Common.{◌≡◌, ℕ, suc, zero, ◌+◌, ◌≤◌, ◌<◌, ◌^◌, Bool, true, false, cond, ◌&&◌, List, [], ◌∷◌, ◌++◌, Option, Some, None, length, map, refl, sym, ap, ◌∙◌, subst, arith, lit<, nat_lt, nat_le, unwrap_or}
+use Rattle.std.proofs.Common.{◌≡◌, ℕ, suc, zero, ◌≤◌, ◌<◌, ◌^◌, true, List, [], ◌∷◌, Some, None, length, map, refl, sym, ap, ◌∙◌, subst, arith, lit<, nat_lt, nat_le, unwrap_or}
 use Rattle.std.specs.List.{slice_get}
-use Rattle.std.specs.Option.{option_and_then, option_map, option_zip}
+use Rattle.std.specs.Option.{option_and_then, option_zip}
 use Rattle.std.specs.Result.{result_ok}
 use Rattle.std.proofs.lemmas.Bool.Decides.{nat_tests}
 use Rattle.std.proofs.lemmas.List.{length-map}
@@ -9,7 +9,6 @@ use Rattle.std.proofs.lemmas.Option.{same_Some}
 use Rattle.sql_values.specs.declared.table.TableDef.{TableDef}
 use Rattle.conf_file.specs.declared.entries.PartEntry.{PartEntry}
 use Rattle.conf_file.specs.declared.entries.TableEntry.{TableEntry}
-use Rattle.part_rules.specs.declared.bounds.Bound.{Bound}
 use Rattle.part_rules.specs.declared.rule.Rule.{Rule}
 use Rattle.part_rules.specs.declared.rule.Rule.TheVariants as rule
 use Rattle.part_rules.specs.Placing.{IsRule, part_count}
@@ -120,8 +119,8 @@ parts_sound servers table own [] parts h = whole_sound servers table own parts h
 parts_sound servers table own (e ∷ es) parts h = record {
   count = each_length (part_of servers table own) (e ∷ es) parts h;
   links = λ p part at.
-    let from = each_at (part_of servers table own) (e ∷ es) parts p part h at in
-    part_sound servers table own from.at part from.gives;
+      let from = each_at (part_of servers table own) (e ∷ es) parts p part h at in
+      part_sound servers table own from.at part from.gives;
 }
 
 made_sound : (servers : ℕ) (pieces : TableDef × (Rule × List Part)) (t : Table) → made pieces ≡ t → IsTable servers (made pieces) → IsTable servers t

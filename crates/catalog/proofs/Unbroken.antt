@@ -1,17 +1,14 @@
 -- Entries that break no rule give their tables.
-use Rattle.std.proofs.Common.{◌≡◌, ℕ, suc, zero, ◌+◌, ◌^◌, Bool, true, false, cond, not, ◌&&◌, List, [], ◌∷◌, Option, Some, None, Result, Ok, Err, length, refl, sym, ap, ◌∙◌, subst, arith, eqb, nat_lt, nat_le, codes}
-use Rattle.std.specs.List.{slice_get}
-use Rattle.std.specs.Option.{option_and_then, option_map, option_zip, option_or, is_some}
+use Rattle.std.proofs.Common.{◌≡◌, ℕ, suc, Bool, true, false, cond, not, List, [], ◌∷◌, Option, Some, None, Result, Ok, Err, length, refl, sym, ap, ◌∙◌, arith, eqb, codes}
+use Rattle.std.specs.Option.{option_and_then, option_map, option_zip, is_some}
 use Rattle.std.specs.Result.{result_ok}
 use Rattle.std.proofs.lemmas.Bool.{eqb-true}
 use Rattle.sql_values.specs.Names.{is_name}
-use Rattle.sql_values.specs.declared.table.TableDef.{TableDef}
 use Rattle.conf_file.specs.declared.entries.PartEntry.{PartEntry}
 use Rattle.conf_file.specs.declared.entries.TableEntry.{TableEntry}
 use Rattle.part_rules.specs.declared.bounds.Bound.{Bound}
-use Rattle.part_rules.specs.declared.rule.Rule.{Rule}
 use Rattle.part_rules.specs.declared.rule.Rule.TheVariants as rule
-use Rattle.part_rules.specs.Rules.{rises, rises_above, is_lower}
+use Rattle.part_rules.specs.Rules.{rises, rises_above}
 use Rattle.catalog.specs.declared.checks.Check.{Check}
 use Rattle.catalog.specs.declared.checks.Check.TheVariants as check
 use Rattle.catalog.specs.declared.comment.Comment.{Comment}
@@ -20,9 +17,7 @@ use Rattle.catalog.specs.declared.fault.CatalogFault.TheVariants.{BadName, BadKe
 use Rattle.catalog.specs.declared.link.Link.{Link}
 use Rattle.catalog.specs.declared.rules.Cut.{Cut}
 use Rattle.catalog.specs.declared.rules.Cut.TheVariants.{Whole, Range, List as ByList, Hash, Unknown}
-use Rattle.catalog.specs.declared.tables.Part.{Part}
-use Rattle.catalog.specs.declared.tables.Table.{Table}
-use Rattle.catalog.specs.Broken.{unnamed, bad_part_name, bad_name, bad_column, bad_key, form_fault, comment_fault, itself, bad_comment, part_comment_fault, bad_part_comment, links_fault, own_links_fault, is_whole, bad_links, part_links_by, part_links_fault, parts_links_fault, bad_part_links, bad_bounds, bad_partition, breaks, broken_by, all_rules}
+use Rattle.catalog.specs.Broken.{unnamed, bad_part_name, bad_name, bad_key, form_fault, comment_fault, itself, bad_comment, part_comment_fault, bad_part_comment, links_fault, own_links_fault, is_whole, bad_links, part_links_by, part_links_fault, parts_links_fault, bad_part_links, bad_bounds, bad_partition, breaks, broken_by, all_rules}
 use Rattle.catalog.specs.Columns.{columns_of, key_of, key_place, keyed, defined, def_of}
 use Rattle.catalog.specs.Comment.{comment_at, nothing, is_text}
 use Rattle.catalog.specs.Links.{links_of, overlaid}
@@ -56,8 +51,8 @@ def_there table named h =
     record {
       at = record { name = table.name; columns = read.at; key = key.at };
       is = ap (option_and_then (defined table)) (name_there table.name named)
-      ∙ ap (option_and_then (keyed table.name table.key)) columns
-      ∙ ap (option_map (λ (k : ℕ). record { name = table.name; columns = read.at; key = k })) place;
+          ∙ ap (option_and_then (keyed table.name table.key)) columns
+          ∙ ap (option_map (λ (k : ℕ). record { name = table.name; columns = read.at; key = k })) place;
     }
 
 -- THE RULE
@@ -149,8 +144,8 @@ part_there servers table own part named formed linked =
     record {
       at = _;
       is = ap (option_and_then (part_named servers table own part)) (name_there part.name named)
-      ∙ ap (option_and_then (part_with servers table own part.name)) comment.is
-      ∙ ap (option_map (λ (l : List Link). record { name = Some part.name; links = l })) links.is;
+          ∙ ap (option_and_then (part_with servers table own part.name)) comment.is
+          ∙ ap (option_map (λ (l : List Link). record { name = Some part.name; links = l })) links.is;
     }
 
 bad_without_parts : (a b c : Bool) → is_bad_cut (cond a Range (cond b ByList (cond c Hash Unknown))) 0 ≡ true
@@ -191,9 +186,9 @@ table_there servers table keeps =
     record {
       at = made (def.at, (made_rule.at, parts.at));
       is = ap (option_and_then (table_with servers table)) own.is
-      ∙ ap (λ o. option_map made (option_zip o (option_zip (rule_of table) (parts_by servers table.name own.at table.parts)))) def.is
-      ∙ ap (λ o. option_map made (option_zip (Some def.at) (option_zip o (parts_by servers table.name own.at table.parts)))) made_rule.is
-      ∙ ap (λ o. option_map made (option_zip (Some def.at) (option_zip (Some made_rule.at) o))) parts.is;
+          ∙ ap (λ o. option_map made (option_zip o (option_zip (rule_of table) (parts_by servers table.name own.at table.parts)))) def.is
+          ∙ ap (λ o. option_map made (option_zip (Some def.at) (option_zip o (parts_by servers table.name own.at table.parts)))) made_rule.is
+          ∙ ap (λ o. option_map made (option_zip (Some def.at) (option_zip (Some made_rule.at) o))) parts.is;
     }
 
 kept_rule : (f : Check → Option CatalogFault) → first f all_rules ≡ None → (r : Check) → f r ≡ None

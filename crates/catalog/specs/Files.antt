@@ -1,5 +1,5 @@
 -- What a file's entries say, and the rule that they break first.
-use Rattle.std.specs.Prelude.{◌≡◌, List, Option, Some, None, option_and_then}
+use Rattle.std.specs.Prelude.{◌≡◌, Option, Some, option_and_then}
 use Rattle.std.specs.Option.{option_or}
 use Rattle.conf_file.specs.declared.entries.ConfFile.{ConfFile}
 use Rattle.catalog.specs.declared.fault.CatalogFault.{CatalogFault}

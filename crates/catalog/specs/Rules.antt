@@ -1,5 +1,5 @@
 -- How an entry cuts its table into partitions.
-use Rattle.std.specs.Prelude.{ℕ, ◌+◌, ◌^◌, ◌==◌, ℤ, Bool, true, false, ◌&&◌, not, List, [], ◌∷◌, Option, Some, None, option_and_then, unwrap_or, if◌then◌else◌, length, map, nat_le, nat_lt, nat_eq, codes, int_lt}
+use Rattle.std.specs.Prelude.{ℕ, ◌+◌, ◌^◌, ◌==◌, ℤ, Bool, true, false, ◌&&◌, not, List, [], ◌∷◌, Option, Some, None, option_and_then, unwrap_or, if◌then◌else◌, length, map, nat_le, nat_lt, nat_eq, codes}
 use Rattle.std.specs.List.{list_all}
 use Rattle.std.specs.Option.{option_map, option_eq}
 use Rattle.conf_file.specs.declared.entries.BoundEntry.{BoundEntry}

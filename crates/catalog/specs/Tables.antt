@@ -1,25 +1,21 @@
 -- The tables that the entries of a configuration give.
-use Rattle.std.specs.Prelude.{◌≡◌, ℕ, ◌<◌, ◌^◌, Bool, true, false, ◌&&◌, not, List, [], ◌∷◌, ◌++◌, Option, Some, None, Result, Ok, Err, option_and_then, if◌then◌else◌, length, map, nat_eq, nat_lt, slice_get}
-use Rattle.std.specs.List.{list_all, list_any, flat_map}
-use Rattle.std.specs.Option.{option_map, option_zip, option_map_or}
+use Rattle.std.specs.Prelude.{ℕ, List, [], ◌∷◌, ◌++◌, Option, Some, None, Result, Ok, option_and_then, map}
+use Rattle.std.specs.Option.{option_map, option_zip}
 use Rattle.std.specs.Result.{result_ok}
-use Rattle.std.specs.Cmp.Lexicographic.{pointwise}
-use Rattle.sql_values.specs.declared.table.ColumnDef.{ColumnDef}
 use Rattle.sql_values.specs.declared.table.TableDef.{TableDef}
 use Rattle.conf_file.specs.declared.entries.ConfFile.{ConfFile}
 use Rattle.conf_file.specs.declared.entries.HostEntry.{HostEntry}
 use Rattle.conf_file.specs.declared.entries.PartEntry.{PartEntry}
 use Rattle.conf_file.specs.declared.entries.TableEntry.{TableEntry}
 use Rattle.part_rules.specs.declared.rule.Rule.{Rule}
-use Rattle.part_rules.specs.Placing.{part_count}
 use Rattle.catalog.specs.declared.comment.Comment.{Comment}
 use Rattle.catalog.specs.declared.link.Link.{Link}
 use Rattle.catalog.specs.declared.tables.Part.{Part}
 use Rattle.catalog.specs.declared.tables.Table.{Table}
-use Rattle.catalog.specs.Columns.{def_of, is_big_int, is_named}
+use Rattle.catalog.specs.Columns.{def_of}
 use Rattle.catalog.specs.Comment.{comment_at, nothing}
-use Rattle.catalog.specs.Links.{overlaid, links_of, are_links}
-use Rattle.catalog.specs.Rules.{rule_of, is_count}
+use Rattle.catalog.specs.Links.{overlaid, links_of}
+use Rattle.catalog.specs.Rules.{rule_of}
 use Rattle.catalog.specs.Searches.{each, name_of}
 
 -- what a comment says, or how many bytes are left where it leaves its form

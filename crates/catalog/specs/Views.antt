@@ -1,6 +1,7 @@
 -- What contracts see of a catalog.
-use Rattle.std.specs.Prelude.{◌≡◌, ℕ, ◌==◌, ◌<◌, true, List, Option, Some, None, if◌then◌else◌, length, map, slice_get}
+use Rattle.std.specs.Prelude.{◌≡◌, ℕ, ◌==◌, ◌<◌, true, List, [], Option, Some, None, if◌then◌else◌, length, slice_get}
 use Rattle.std.specs.List.{filter_map, flat_map}
+use Rattle.std.specs.Option.{option_map_or}
 use Rattle.sql_values.specs.declared.table.ColumnDef.{ColumnDef}
 use Rattle.sql_values.specs.declared.table.Kind.TheVariants.{BigInt}
 use Rattle.sql_values.specs.declared.table.TableDef.{TableDef}
@@ -13,7 +14,6 @@ use Rattle.catalog.specs.declared.link.Link.{Link}
 use Rattle.catalog.specs.declared.tables.Part.{Part}
 use Rattle.catalog.specs.declared.tables.Table.{Table}
 use Rattle.catalog.specs.Links.{are_links}
-use Rattle.catalog.specs.Shared.{host_name}
 
 -- each in file order
 pub record View : Type 0 where
@@ -37,6 +37,10 @@ AreTables servers tables = (t : ℕ) (table : Table) → slice_get tables t ≡ 
 
 abbrev pub table_name : Table → List ℕ
 table_name table = table.def.name
+
+-- the partitions of a table
+abbrev pub parts_at : List Table → ℕ → List Part
+parts_at tables table = option_map_or (λ (t : Table). t.parts) (slice_get tables table) []
 
 -- the definition of a link's table on this server, under its name there
 abbrev pub remote_def : ℕ → TableDef → Link → Option TableDef

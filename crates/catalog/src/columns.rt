@@ -30,7 +30,10 @@ pub(crate) fn column_text(alloc: Global, text: &Text) -> Result<Option<ColumnDef
 }
 
 /// The columns of an entry, where each has its form.
-pub(crate) fn columns_of(alloc: Global, table: &TableEntry) -> Result<Option<ColumnDefs>, AllocError>
+pub(crate) fn columns_of(
+    alloc: Global,
+    table: &TableEntry,
+) -> Result<Option<ColumnDefs>, AllocError>
     ensures { IfOk result (λ found. found ≡ columns_read table.now) }
 {
     let mut columns = Listed::new(alloc);

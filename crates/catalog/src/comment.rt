@@ -121,13 +121,7 @@ impl Comment {
         ensures { result ≡ key_here self.now word.now }
     {
         match key_of(word) {
-            Some(key) => {
-                if self.has_key(key) {
-                    None
-                } else {
-                    Some(key)
-                }
-            }
+            Some(key) => { if self.has_key(key) { None } else { Some(key) } }
             None => None,
         }
     }
@@ -322,7 +316,12 @@ fn step(
 
 /// Reads so many pairs at most, up to the end.
 #[tactic(auto, using(crate::proofs::Pieces::pairs_step))]
-fn pairs(alloc: Global, count: usize, comment: Comment, bytes: &[u8]) -> Result<Comment, CommentFault>
+fn pairs(
+    alloc: Global,
+    count: usize,
+    comment: Comment,
+    bytes: &[u8],
+) -> Result<Comment, CommentFault>
     ensures { Gives (λ x. x) result (pairs_at count comment bytes.now) }
 {
     let mut comment = comment;

@@ -54,13 +54,7 @@ fn behind_quote(bytes: &[u8]) -> Option<&[u8]>
     ensures { option_map (λ r. r.now) result ≡ quoted bytes.now }
 {
     match bytes {
-        [byte, others @ ..] => {
-            if *byte == QUOTE {
-                Some(others)
-            } else {
-                None
-            }
-        }
+        [byte, others @ ..] => { if *byte == QUOTE { Some(others) } else { None } }
         [] => None,
     }
 }

@@ -16,11 +16,7 @@ pub enum CatalogFault {
     BadKey(Text),
     /// A comment leaves its form at this byte.
     #[error("bad comment {table}.{part} at byte {place}")]
-    BadComment {
-        table: Text,
-        part: Text,
-        place: u64,
-    },
+    BadComment { table: Text, part: Text, place: u64 },
     /// A comment names a server that the configuration lacks.
     #[error("unknown server {0}")]
     UnknownServer(Text),

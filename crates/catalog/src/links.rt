@@ -259,6 +259,12 @@ pub(crate) fn links_of(
         return Ok(None);
     };
     let monitored = part.monitored.or(table.monitored).unwrap_or(true);
-    let links = linked(alloc, monitored, numbers.as_slice(), remotes.as_slice(), statuses.as_slice())?;
+    let links = linked(
+        alloc,
+        monitored,
+        numbers.as_slice(),
+        remotes.as_slice(),
+        statuses.as_slice(),
+    )?;
     Ok(tested_links(servers.len(), links))
 }

@@ -46,7 +46,10 @@ pub(crate) fn said(alloc: Global, comment: &Option<Text>) -> Result<Comment, Com
 }
 
 /// What a comment says, or None where it leaves its form.
-pub(crate) fn comment_of(alloc: Global, comment: &Option<Text>) -> Result<Option<Comment>, AllocError>
+pub(crate) fn comment_of(
+    alloc: Global,
+    comment: &Option<Text>,
+) -> Result<Option<Comment>, AllocError>
     ensures { IfOk result (λ found. found ≡ result_ok (meaning comment.now)) }
 {
     match said(alloc, comment) {
@@ -192,11 +195,7 @@ fn table_with(
 }
 
 #[tactic(auto, unfolding(crate::specs::Tables::table_of))]
-fn table_of(
-    alloc: Global,
-    servers: &Index,
-    table: &TableEntry,
-) -> Result<Option<Table>, AllocError>
+fn table_of(alloc: Global, servers: &Index, table: &TableEntry) -> Result<Option<Table>, AllocError>
     ensures { IfOk result (λ found. found ≡ table_meant servers.now table.now) }
 {
     match comment_of(alloc, &table.comment)? {

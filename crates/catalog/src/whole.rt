@@ -7,7 +7,7 @@ ghost use Rattle.part_rules.specs.Placing.{IsRule, part_count as count_of_parts}
 ghost use Rattle.catalog.specs.Index.{place_in};
 ghost use Rattle.catalog.specs.Links.{are_links};
 ghost use Rattle.catalog.specs.Shared.{host_name};
-ghost use Rattle.catalog.specs.Views.{AreTables, IsTable, table_name, remote_def as def_there, part_defs, table_defs, remote_defs, View};
+ghost use Rattle.catalog.specs.Views.{AreTables, IsTable, parts_at, table_name, remote_def as def_there, part_defs, table_defs, remote_defs, View};
 
 use crate::copies::{copy_front, copy_hosts, copy_tables, copy_users};
 use crate::index::Index;
@@ -41,7 +41,7 @@ impl Model for Catalog {
 
     ghost Value = { View };
 
-    ghost view = { λ c. record { front = c.front; users = c.users; servers = c.servers; monitors = c.monitors; tables = c.tables; } };
+    ghost view = { λ c. record { front = c.front; users = c.users; servers = c.servers; monitors = c.monitors; tables = c.tables } };
 
     ghost invariant = { λ c. (c.server_places ≡ map host_name c.servers) × (c.table_places ≡ map table_name c.tables) × AreTables (length c.servers) c.tables };
 }
@@ -238,7 +238,7 @@ impl Catalog {
     /// A table's partitions, in order; there is one for each place of its rule.
     pub fn parts(&self, table: TableNo) -> &[Part]
         requires { table < length self.now.tables }
-        ensures value { option_map (λ t. t.parts) (slice_get self.now.tables table) ≡ Some result.now }
+        ensures value { result.now ≡ parts_at self.now.tables table }
         ensures count { option_map (λ t. count_of_parts t.rule) (slice_get self.now.tables table) ≡ Some (length result.now) }
         ensures sound { (p : ℕ) (part : Part) → slice_get result.now p ≡ Some part → are_links (length self.now.servers) part.links ≡ true }
     {
@@ -248,8 +248,8 @@ impl Catalog {
     /// The links of a partition.
     pub fn links(&self, table: TableNo, part: PartNo) -> &Links
         requires table { table < length self.now.tables }
-        requires part { (t : Table) → slice_get self.now.tables table ≡ Some t → part < length t.parts }
-        ensures value { (t : Table) → slice_get self.now.tables table ≡ Some t → option_map (λ p. p.links) (slice_get t.parts part) ≡ Some result.now }
+        requires part { part < length (parts_at self.now.tables table) }
+        ensures value { option_map (λ p. p.links) (slice_get (parts_at self.now.tables table) part) ≡ Some result.now }
         ensures sound { are_links (length self.now.servers) result.now ≡ true }
     {
         &self.parts(table)[part as usize].links
@@ -258,8 +258,8 @@ impl Catalog {
     /// A partition's name, or None for the one partition of a table without partitions.
     pub fn part_name(&self, table: TableNo, part: PartNo) -> Option<&Name>
         requires table { table < length self.now.tables }
-        requires part { (t : Table) → slice_get self.now.tables table ≡ Some t → part < length t.parts }
-        ensures { (t : Table) → slice_get self.now.tables table ≡ Some t → option_map (λ p. p.name) (slice_get t.parts part) ≡ Some (option_map (λ r. r.now) result) }
+        requires part { part < length (parts_at self.now.tables table) }
+        ensures { option_map (λ p. p.name) (slice_get (parts_at self.now.tables table) part) ≡ Some (option_map (λ r. r.now) result) }
     {
         match &self.parts(table)[part as usize].name {
             Some(name) => Some(name),

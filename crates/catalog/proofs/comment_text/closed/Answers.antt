@@ -1,4 +1,3 @@
-use Rattle.std.proofs.Common.{arith}
 use Rattle.catalog.proofs.Pieces.{closed_next}
 use Rattle.catalog.proofs.comment_text.closed.Goals as goal
 

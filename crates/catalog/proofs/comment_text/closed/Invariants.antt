@@ -1,4 +1,4 @@
-use Rattle.std.proofs.Common.{◌≡◌, ◌++◌, take, drop}
+use Rattle.std.proofs.Common.{◌≡◌, take, drop}
 use Rattle.catalog.specs.CommentText.{closed as close_text, behind}
 use Rattle.catalog.proofs.comment_text.closed.Given as goal
 

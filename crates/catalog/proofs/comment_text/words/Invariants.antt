@@ -1,4 +1,4 @@
-use Rattle.std.proofs.Common.{◌≡◌, ◌++◌, [], drop, string_bytes}
+use Rattle.std.proofs.Common.{◌≡◌, [], drop, string_bytes}
 use Rattle.catalog.specs.CommentText.{words_from, after_words}
 use Rattle.catalog.proofs.comment_text.words.Given as goal
 

@@ -1,4 +1,4 @@
-use Rattle.std.proofs.Common.{◌^◌, ◌<◌, length, ℕ, subst, sym}
+use Rattle.std.proofs.Common.{◌^◌, ◌<◌, ℕ, subst, sym}
 use Rattle.catalog.proofs.Breaking.{entries_sound, entries_count}
 use Rattle.catalog.proofs.files.catalog_of.Goals as goal
 

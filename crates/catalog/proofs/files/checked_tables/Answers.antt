@@ -1,4 +1,4 @@
-use Rattle.std.proofs.Common.{◌≡◌, ◌∙◌, sym, Option, Some, None, List, inl, inr}
+use Rattle.std.proofs.Common.{◌≡◌, ◌∙◌, Some, None, inl, inr}
 use Rattle.catalog.specs.Shared.{shared_remote}
 use Rattle.catalog.proofs.Breaking.{broken_by_table, broken_by_link}
 use Rattle.catalog.proofs.files.checked_tables.Goals as goal

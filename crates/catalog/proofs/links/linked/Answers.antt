@@ -1,4 +1,3 @@
-use Rattle.std.proofs.Common.{arith}
 use Rattle.std.proofs.lemmas.List.{append-nil}
 use Rattle.catalog.proofs.Linking.{remotes_end, statuses_end}
 use Rattle.catalog.proofs.links.linked.Goals as goal

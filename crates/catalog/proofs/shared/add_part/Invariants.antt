@@ -1,5 +1,4 @@
 use Rattle.std.proofs.Common.{◌≡◌, ◌++◌, map, take}
-use Rattle.std.specs.List.{flat_map}
 use Rattle.catalog.specs.Shared.{remote_of}
 use Rattle.catalog.proofs.shared.add_part.Given as goal
 

@@ -1,4 +1,4 @@
-use Rattle.std.proofs.Common.{◌≡◌, ◌++◌, map, take}
+use Rattle.std.proofs.Common.{◌≡◌, take}
 use Rattle.std.specs.List.{flat_map}
 use Rattle.catalog.specs.Shared.{table_remotes}
 use Rattle.catalog.proofs.shared.all_remotes.Given as goal

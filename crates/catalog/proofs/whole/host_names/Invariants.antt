@@ -1,4 +1,4 @@
-use Rattle.std.proofs.Common.{◌≡◌, ◌++◌, map, take}
+use Rattle.std.proofs.Common.{◌≡◌, map, take}
 use Rattle.catalog.specs.Shared.{host_name}
 use Rattle.catalog.proofs.whole.host_names.Given as goal
 

@@ -1,4 +1,4 @@
-use Rattle.std.proofs.Common.{◌≡◌, ◌++◌, map, take}
+use Rattle.std.proofs.Common.{◌≡◌, map, take}
 use Rattle.catalog.specs.Views.{table_name}
 use Rattle.catalog.proofs.whole.table_names.Given as goal
 

@@ -1,0 +1,303 @@
+use crate::comment::{CommentFault, read_comment};
+use crate::{Catalog, read_catalog};
+use list_types::Text;
+use sql_values::Name;
+use std::alloc::{AllocError, Global};
+use std::test::Fail;
+
+/// A front, a user and two servers.
+const HEAD: &str =
+    "[front]\nname = \"f\"\nlisten = \"127.0.0.1:4406\"\nuser = \"link\"\npassword = \"\"\n[[user]]\nname = \"link\"\npassword = \"\"\n[[server]]\nname = \"s1\"\naddress = \"127.0.0.1:4501\"\n[[server]]\nname = \"s2\"\naddress = \"127.0.0.1:4502\"\n";
+
+/// The place at which a comment leaves its form, or `-`.
+fn place(alloc: Global, comment: &str) -> Result<String, AllocError> {
+    match read_comment(alloc, comment.as_bytes()) {
+        Ok(_comment) => String::from_str(alloc, "-"),
+        Err(CommentFault::Form(left)) => {
+            let place = comment.len().saturating_sub(left);
+            format!(in alloc; "{place}")
+        }
+        Err(CommentFault::NoMemory) => Err(AllocError),
+    }
+}
+
+/// How a configuration with these tables is answered.
+fn answer(alloc: Global, tables: &str) -> Result<String, AllocError> {
+    let conf = format!(in alloc; "{HEAD}{tables}")?;
+    match read_catalog(alloc, conf.as_bytes()) {
+        Ok(catalog) => format!(in alloc; "{} tables", catalog.tables().len()),
+        Err(fault) => format!(in alloc; "{fault}"),
+    }
+}
+
+fn all_places(alloc: Global, rows: &[(&str, &str)]) -> Result<bool, AllocError> {
+    for (comment, expected) in rows {
+        if place(alloc, *comment)?.as_str() != *expected {
+            return Ok(false);
+        }
+    }
+    Ok(true)
+}
+
+fn all_answers(alloc: Global, rows: &[(&str, &str)]) -> Result<bool, AllocError> {
+    for (tables, expected) in rows {
+        if answer(alloc, *tables)?.as_str() != *expected {
+            return Ok(false);
+        }
+    }
+    Ok(true)
+}
+
+const COMMENTS: &[(&str, &str)] = &[
+    ("", "-"),
+    (" \t\r\n", "-"),
+    ("srv \"s1\"", "-"),
+    (" srv\t\"s1 s2\" , lst \"1 3\" ", "-"),
+    ("wrapper \"mysql\", table \"a b\", mbk \"2\"", "-"),
+    ("srv \"\"", "-"),
+    ("srv\"s1\"", "3"),
+    ("srv", "3"),
+    ("srv ", "4"),
+    ("srv s1", "4"),
+    ("srv \"s1", "4"),
+    ("srv \"s1\",", "9"),
+    ("srv \"s1\" lst \"1\"", "9"),
+    (", srv \"s1\"", "0"),
+    ("nope \"1\"", "0"),
+    ("srv \"s1\", srv \"s2\"", "10"),
+    ("lst \"1 2\"", "4"),
+    ("wrapper \"\"", "8"),
+    ("mbk \"0 1\"", "4"),
+    ("table \"1a\"", "6"),
+    ("srv \"s-1\"", "4"),
+    (
+        "wrapper \"mysql\", srv \"s\", table \"t\", lst \"1\", mbk \"0\", srv \"s\"",
+        "55",
+    ),
+];
+
+#[test]
+fn comments_leave_their_form_at_places(rt: HostRuntime) -> Result<(), Fail> {
+    let agree = all_places(rt.alloc(), COMMENTS)?;
+    assert!(rt; agree);
+    Ok(())
+}
+
+/// Each rule broken alone, and two at once.
+const RULES: &[(&str, &str)] = &[
+    ("", "0 tables"),
+    (
+        "[[table]]\nname = \"t\"\ncolumns = [\"k BIGINT\", \"v VARCHAR(20)\"]\nkey = \"k\"\ncomment = 'srv \"s1\"'\n",
+        "1 tables",
+    ),
+    (
+        "[[table]]\nname = \"t\"\ncolumns = [\"k BIGINT\", \"v TEXT\"]\nkey = \"k\"\ncomment = 'srv \"s1\"'\n",
+        "bad column v TEXT",
+    ),
+    (
+        "[[table]]\nname = \"t\"\ncolumns = [\"k BIGINT\", \"v VARCHAR(20)\"]\nkey = \"v\"\ncomment = 'srv \"s1\"'\n",
+        "bad key v",
+    ),
+    (
+        "[[table]]\nname = \"t\"\ncolumns = [\"k BIGINT\", \"v VARCHAR(20)\"]\nkey = \"k\"\ncomment = 'srv \"s1\"x'\n",
+        "bad comment t.- at byte 8",
+    ),
+    (
+        "[[table]]\nname = \"t\"\ncolumns = [\"k BIGINT\", \"v VARCHAR(20)\"]\nkey = \"k\"\ncomment = 'srv \"s1 s3\"'\n",
+        "unknown server s3",
+    ),
+    (
+        "[[table]]\nname = \"t\"\ncolumns = [\"k BIGINT\", \"v VARCHAR(20)\"]\nkey = \"k\"\ncomment = 'mbk \"0\"'\n",
+        "bad links t.-",
+    ),
+    (
+        "[[table]]\nname = \"t\"\ncolumns = [\"k BIGINT\", \"v VARCHAR(20)\"]\nkey = \"k\"\ncomment = 'srv \"s1 s1\"'\n",
+        "bad links t.-",
+    ),
+    (
+        "[[table]]\nname = \"t\"\ncolumns = [\"k BIGINT\", \"v VARCHAR(20)\"]\nkey = \"k\"\ncomment = 'srv \"s1 s2\", lst \"3 3\"'\n",
+        "bad links t.-",
+    ),
+    (
+        "[[table]]\nname = \"t\"\ncolumns = [\"k BIGINT\", \"v VARCHAR(20)\"]\nkey = \"k\"\ncomment = 'srv \"s1 s2\", lst \"1 3\"'\npartition = \"HASH\"\npart = [ {name=\"p0\", comment='srv \"s1\"'} ]\n",
+        "bad links t.p0",
+    ),
+    (
+        "[[table]]\nname = \"t\"\ncolumns = [\"k BIGINT\", \"v VARCHAR(20)\"]\nkey = \"k\"\ncomment = 'srv \"s1\"'\npartition = \"HASH\"\npart = [ {name=\"p00000000000000000000000000000000000000000000000000000000000000\"} ]\n",
+        "bad links t.p00000000000000000000000000000000000000000000000000000000000000",
+    ),
+    (
+        "[[table]]\nname = \"t\"\ncolumns = [\"k BIGINT\", \"v VARCHAR(20)\"]\nkey = \"k\"\ncomment = 'srv \"s1\"'\npartition = \"RANGE\"\npart = [ {name=\"p0\", less_than=5}, {name=\"p1\", less_than=5} ]\n",
+        "bad bounds t.p1",
+    ),
+    (
+        "[[table]]\nname = \"t\"\ncolumns = [\"k BIGINT\", \"v VARCHAR(20)\"]\nkey = \"k\"\ncomment = 'srv \"s1\"'\npartition = \"RANGE\"\npart = [ {name=\"p0\", less_than=\"MAXVALUE\"}, {name=\"p1\", less_than=5} ]\n",
+        "bad bounds t.p1",
+    ),
+    (
+        "[[table]]\nname = \"t\"\ncolumns = [\"k BIGINT\", \"v VARCHAR(20)\"]\nkey = \"k\"\ncomment = 'srv \"s1\"'\npartition = \"LIST\"\npart = [ {name=\"p0\", in_list=[1,1]}, {name=\"p1\", in_list=[2,1]} ]\n",
+        "bad bounds t.p1",
+    ),
+    (
+        "[[table]]\nname = \"t\"\ncolumns = [\"k BIGINT\", \"v VARCHAR(20)\"]\nkey = \"k\"\ncomment = 'srv \"s1\"'\npartition = \"LIST\"\npart = [ {name=\"p0\", in_list=[]} ]\n",
+        "bad bounds t.p0",
+    ),
+    (
+        "[[table]]\nname = \"t\"\ncolumns = [\"k BIGINT\", \"v VARCHAR(20)\"]\nkey = \"k\"\ncomment = 'srv \"s1\"'\npartition = \"KEY\"\npart = [ {name=\"p0\"} ]\n",
+        "bad partition t",
+    ),
+    (
+        "[[table]]\nname = \"t\"\ncolumns = [\"k BIGINT\", \"v VARCHAR(20)\"]\nkey = \"k\"\ncomment = 'srv \"s1\"'\npart = [ {name=\"p0\"} ]\n",
+        "bad partition t",
+    ),
+    (
+        "[[table]]\nname = \"t\"\ncolumns = [\"k BIGINT\", \"v VARCHAR(20)\"]\nkey = \"k\"\npartition = \"HASH\"\n",
+        "bad partition t",
+    ),
+    (
+        "[[table]]\nname = \"t\"\ncolumns = [\"k BIGINT\", \"v VARCHAR(20)\"]\nkey = \"k\"\ncomment = 'srv \"s1\", table \"x\"'\n[[table]]\nname = \"u\"\ncolumns = [\"k BIGINT\", \"v VARCHAR(20)\"]\nkey = \"k\"\ncomment = 'srv \"s1\", table \"x\"'\n",
+        "shared remote s1.x",
+    ),
+    (
+        "[[table]]\nname = \"t\"\ncolumns = [\"k BIGINT\", \"v VARCHAR(20)\"]\nkey = \"v\"\ncomment = 'srv \"s1\"'\n[[table]]\nname = \"u\"\ncolumns = [\"k INT\"]\nkey = \"k\"\ncomment = 'srv \"s1\"'\n",
+        "bad column k INT",
+    ),
+    (
+        "[[table]]\nname = \"t\"\ncolumns = [\"k BIGINT\", \"v VARCHAR(20)\"]\nkey = \"k\"\npartition = \"HASH\"\npart = [ {name=\"p0\", comment='x'} ]\n[[table]]\nname = \"u\"\ncolumns = [\"k BIGINT\", \"v VARCHAR(20)\"]\nkey = \"k\"\ncomment = 'y'\n",
+        "bad comment u.- at byte 0",
+    ),
+];
+
+#[test]
+fn the_first_broken_rule_is_told(rt: HostRuntime) -> Result<(), Fail> {
+    let agree = all_answers(rt.alloc(), RULES)?;
+    assert!(rt; agree);
+    Ok(())
+}
+
+/// A table over four partitions by HASH, one over two by RANGE, and one over two links.
+const TABLES: &str =
+    "[[table]]\nname = \"h\"\ncolumns = [\"k BIGINT\", \"v BIGINT\"]\nkey = \"k\"\npartition = \"HASH\"\npart = [ {name=\"p0\", comment='srv \"s1\"'}, {name=\"p1\", comment='srv \"s2\"'}, {name=\"p2\", comment='srv \"s1\"'}, {name=\"p3\", comment='srv \"s2\"'} ]\n[[table]]\nname = \"r\"\ncolumns = [\"k BIGINT\", \"v BIGINT\"]\nkey = \"k\"\ncomment = 'wrapper \"mysql\", srv \"s1\"'\npartition = \"RANGE\"\npart = [ {name=\"p0\", less_than=0}, {name=\"p1\", less_than=100} ]\n[[table]]\nname = \"t\"\ncolumns = [\"k BIGINT\", \"v BIGINT\"]\nkey = \"k\"\ncomment = 'srv \"s1 s2\", lst \"1 3\", mbk \"0\"'\n";
+
+fn catalog(alloc: Global) -> Result<Option<Catalog>, AllocError> {
+    let conf = format!(in alloc; "{HEAD}{TABLES}")?;
+    match read_catalog(alloc, conf.as_bytes()) {
+        Ok(catalog) => Ok(Some(catalog)),
+        Err(_fault) => Ok(None),
+    }
+}
+
+fn name(alloc: Global, text: &str) -> Result<Option<Name>, AllocError> {
+    match Name::from_text(Text::from_str(alloc, text)?) {
+        Ok(name) => Ok(Some(name)),
+        Err(_text) => Ok(None),
+    }
+}
+
+/// A table as `NAME KEY COUNT PART: LINK ..`, of its last partition's links.
+fn shown(alloc: Global, catalog: &Catalog, table: u32) -> Result<String, AllocError> {
+    if table as usize >= catalog.tables().len() {
+        return String::from_str(alloc, "-");
+    }
+    let def = catalog.def(table);
+    let count = catalog.rule(table).part_count();
+    let mut text = format!(in alloc; "{} {} {count}", def.name, def.key)?;
+    let parts = catalog.parts(table);
+    if parts.is_empty() {
+        return Ok(text);
+    }
+    let last = parts.len() - 1;
+    if last > u32::MAX as usize {
+        return Ok(text);
+    }
+    match catalog.part_name(table, last as u32) {
+        Some(name) => {
+            text.push_str(" ")?;
+            text.push_str(name.as_str())?;
+        }
+        None => text.push_str(" -")?,
+    }
+    for link in catalog.links(table, last as u32).as_slice() {
+        let first = link.first as u8;
+        let monitored = link.monitored;
+        text.push_str(format!(in alloc;
+            ", {} {} {first} {monitored}",
+            link.server, link.remote
+        )?.as_str())?;
+    }
+    Ok(text)
+}
+
+fn is_shown(alloc: Global, table: u32, expected: &str) -> Result<bool, AllocError> {
+    match catalog(alloc)? {
+        Some(catalog) => {
+            let copy = catalog.copy(alloc)?;
+            Ok(shown(alloc, &copy, table)?.as_str() == expected)
+        }
+        None => Ok(false),
+    }
+}
+
+#[test]
+fn tables_have_their_rules_and_links(rt: HostRuntime) -> Result<(), Fail> {
+    let alloc = rt.alloc();
+    let hash = is_shown(alloc, 0, "h 0 4 p3, 1 h_p3 1 true")?;
+    assert!(rt; hash);
+    let range = is_shown(alloc, 1, "r 0 2 p1, 0 r_p1 1 true")?;
+    assert!(rt; range);
+    let whole = is_shown(alloc, 2, "t 0 1 -, 0 t 1 false, 1 t 3 false")?;
+    assert!(rt; whole);
+    Ok(())
+}
+
+/// The places of a table and a server, and how many tables lie on the server.
+fn places(alloc: Global, table: &str, server: &str) -> Result<String, AllocError> {
+    let (Some(table), Some(server)) = (name(alloc, table)?, name(alloc, server)?) else {
+        return String::from_str(alloc, "no name");
+    };
+    let Some(catalog) = catalog(alloc)? else {
+        return String::from_str(alloc, "no catalog");
+    };
+    let (Some(table), Some(server)) = (catalog.table(&table), catalog.server(&server)) else {
+        return String::from_str(alloc, "not there");
+    };
+    let remotes = catalog.remotes(alloc, server)?;
+    format!(in alloc; "{table} {server} {}", remotes.len())
+}
+
+fn has_places(
+    alloc: Global,
+    table: &str,
+    server: &str,
+    expected: &str,
+) -> Result<bool, AllocError> {
+    Ok(places(alloc, table, server)?.as_str() == expected)
+}
+
+#[test]
+fn names_are_found(rt: HostRuntime) -> Result<(), Fail> {
+    let there = has_places(rt.alloc(), "r", "s2", "1 1 3")?;
+    assert!(rt; there);
+    let missing = has_places(rt.alloc(), "r", "s3", "not there")?;
+    assert!(rt; missing);
+    Ok(())
+}
+
+fn has_entries(alloc: Global) -> Result<bool, AllocError> {
+    match catalog(alloc)? {
+        Some(catalog) => Ok(
+            catalog.front().name.as_str() == "f"
+                && catalog.users().len() == 1
+                && catalog.servers().len() == 2
+                && catalog.monitors().is_empty(),
+        ),
+        None => Ok(false),
+    }
+}
+
+#[test]
+fn entries_stay(rt: HostRuntime) -> Result<(), Fail> {
+    let entries = has_entries(rt.alloc())?;
+    assert!(rt; entries);
+    Ok(())
+}
