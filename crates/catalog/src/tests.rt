@@ -1,5 +1,5 @@
 use crate::comment::{CommentFault, read_comment};
-use crate::{Catalog, read_catalog};
+use crate::{Catalog, Link, read_catalog};
 use list_types::Text;
 use sql_values::Name;
 use std::alloc::{AllocError, Global};
@@ -194,58 +194,88 @@ fn name(alloc: Global, text: &str) -> Result<Option<Name>, AllocError> {
     }
 }
 
-/// A table as `NAME KEY COUNT PART: LINK ..`, of its last partition's links.
-fn shown(alloc: Global, catalog: &Catalog, table: u32) -> Result<String, AllocError> {
+/// A table's name, the place of its key, and how many partitions its rule has.
+fn head(alloc: Global, catalog: &Catalog, table: u32) -> Result<String, AllocError> {
     if table as usize >= catalog.tables().len() {
-        return String::from_str(alloc, "-");
+        return String::from_str(alloc, "no table");
     }
     let def = catalog.def(table);
     let count = catalog.rule(table).part_count();
-    let mut text = format!(in alloc; "{} {} {count}", def.name, def.key)?;
-    let parts = catalog.parts(table);
-    if parts.is_empty() {
-        return Ok(text);
-    }
-    let last = parts.len() - 1;
-    if last > u32::MAX as usize {
-        return Ok(text);
-    }
-    match catalog.part_name(table, last as u32) {
-        Some(name) => {
-            text.push_str(" ")?;
-            text.push_str(name.as_str())?;
-        }
-        None => text.push_str(" -")?,
-    }
-    for link in catalog.links(table, last as u32).as_slice() {
-        let first = link.first as u8;
-        let monitored = link.monitored;
-        text.push_str(format!(in alloc;
-            ", {} {} {first} {monitored}",
-            link.server, link.remote
-        )?.as_str())?;
-    }
-    Ok(text)
+    format!(in alloc; "{} {} {count}", def.name, def.key)
 }
 
-fn is_shown(alloc: Global, table: u32, expected: &str) -> Result<bool, AllocError> {
+fn has_head(alloc: Global, table: u32, expected: &str) -> Result<bool, AllocError> {
     match catalog(alloc)? {
-        Some(catalog) => {
-            let copy = catalog.copy(alloc)?;
-            Ok(shown(alloc, &copy, table)?.as_str() == expected)
-        }
+        Some(catalog) => Ok(head(alloc, &catalog, table)?.as_str() == expected),
+        None => Ok(false),
+    }
+}
+
+fn link_text(alloc: Global, link: &Link) -> Result<String, AllocError> {
+    let first = link.first as u8;
+    let monitored = link.monitored;
+    format!(in alloc; "{} {} {first} {monitored}", link.server, link.remote)
+}
+
+/// The last link of a table's first partition, with that partition's name.
+fn last_link(alloc: Global, catalog: &Catalog, table: u32) -> Result<String, AllocError> {
+    if table as usize >= catalog.tables().len() || catalog.parts(table).is_empty() {
+        return String::from_str(alloc, "no partition");
+    }
+    match catalog.links(table, 0).as_slice() {
+        [.., link] => link_text(alloc, link),
+        [] => String::from_str(alloc, "no link"),
+    }
+}
+
+fn has_last_link(alloc: Global, table: u32, expected: &str) -> Result<bool, AllocError> {
+    match catalog(alloc)? {
+        Some(catalog) => Ok(last_link(alloc, &catalog.copy(alloc)?, table)?.as_str() == expected),
+        None => Ok(false),
+    }
+}
+
+/// The name of a table's first partition, or `-`.
+fn first_part(alloc: Global, catalog: &Catalog, table: u32) -> Result<String, AllocError> {
+    if table as usize >= catalog.tables().len() || catalog.parts(table).is_empty() {
+        return String::from_str(alloc, "no partition");
+    }
+    match catalog.part_name(table, 0) {
+        Some(name) => String::from_str(alloc, name.as_str()),
+        None => String::from_str(alloc, "-"),
+    }
+}
+
+fn has_first_part(alloc: Global, table: u32, expected: &str) -> Result<bool, AllocError> {
+    match catalog(alloc)? {
+        Some(catalog) => Ok(first_part(alloc, &catalog, table)?.as_str() == expected),
         None => Ok(false),
     }
 }
 
 #[test]
-fn tables_have_their_rules_and_links(rt: HostRuntime) -> Result<(), Fail> {
-    let alloc = rt.alloc();
-    let hash = is_shown(alloc, 0, "h 0 4 p3, 1 h_p3 1 true")?;
+fn tables_have_their_rules(rt: HostRuntime) -> Result<(), Fail> {
+    let hash = has_head(rt.alloc(), 0, "h 0 4")?;
     assert!(rt; hash);
-    let range = is_shown(alloc, 1, "r 0 2 p1, 0 r_p1 1 true")?;
+    let range = has_head(rt.alloc(), 1, "r 0 2")?;
     assert!(rt; range);
-    let whole = is_shown(alloc, 2, "t 0 1 -, 0 t 1 false, 1 t 3 false")?;
+    Ok(())
+}
+
+#[test]
+fn partitions_have_their_links(rt: HostRuntime) -> Result<(), Fail> {
+    let hash = has_last_link(rt.alloc(), 0, "0 h_p0 1 true")?;
+    assert!(rt; hash);
+    let whole = has_last_link(rt.alloc(), 2, "1 t 3 false")?;
+    assert!(rt; whole);
+    Ok(())
+}
+
+#[test]
+fn partitions_have_names(rt: HostRuntime) -> Result<(), Fail> {
+    let range = has_first_part(rt.alloc(), 1, "p0")?;
+    assert!(rt; range);
+    let whole = has_first_part(rt.alloc(), 2, "-")?;
     assert!(rt; whole);
     Ok(())
 }

@@ -38,12 +38,7 @@ fn server_text(servers: &[HostEntry], server: u32) -> &str
 }
 
 /// Which link it is.
-fn push_front(
-    out: &mut Bytes,
-    table: &Name,
-    part: &Part,
-    number: usize,
-) -> Result<(), AllocError>
+fn push_front(out: &mut Bytes, table: &Name, part: &Part, number: usize) -> Result<(), AllocError>
     ensures { IfOk result (λ _. out.new ≡ out.old ++ link_front table.now part.now.name number) }
 {
     out.extend_from_slices(b"link ", table.as_str().as_bytes())?;

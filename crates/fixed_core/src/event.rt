@@ -1,6 +1,6 @@
+use fixed_text::{LinkAnswer, LinkRequest};
 use list_types::{Bytes, Listed};
 use my_messages::Reply;
-use fixed_text::{LinkAnswer, LinkRequest};
 use sql_values::ServerNo;
 
 /// A transaction's number, and the boot of the front that drew it.

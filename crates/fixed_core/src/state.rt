@@ -1,7 +1,7 @@
 use crate::work::Work;
 use crate::{Event, Outputs};
-use list_types::Listed;
 use fixed_text::LinkAnswer;
+use list_types::Listed;
 use std::alloc::Global;
 use std::collections::BTreeMap;
 use std::marker::Model;

@@ -7,9 +7,9 @@ ghost use Rattle.std.specs.List.{list_all};
 ghost use Rattle.fixed_core.specs.Core.{asks as asked, is_short as short_value, is_short_row as short_row, is_rows as rows_form, is_done as done_form};
 
 use crate::{Output, TxNo, replies};
+use fixed_text::{LinkAnswer, LinkRequest, ParseFault, Statement, parse};
 use list_types::Listed;
 use my_messages::Reply;
-use fixed_text::{LinkAnswer, LinkRequest, ParseFault, Statement, parse};
 use sql_values::{Row, Text, Value};
 use std::alloc::{AllocError, Global};
 use std::mem;

@@ -10,9 +10,9 @@ ghost use Rattle.front_node.specs.Asking.{Busy, Node, Turn, Turns, Runs, reply_i
 
 use crate::{Backs, Kernel};
 use fixed_core::{Event, Output, Outputs, no_memory};
+use fixed_text::LinkRequest;
 use list_types::{Bytes, Listed};
 use my_messages::Reply;
-use fixed_text::LinkRequest;
 use sql_values::ServerNo;
 use std::alloc::{AllocError, Global};
 use std::collections::VecDeque;

@@ -178,9 +178,19 @@ const OTHER_LINKS: &[u8] =
 #[test]
 fn links_are_written(rt: HostRuntime) -> Result<(), Fail> {
     let alloc = rt.alloc();
-    let ran = call(alloc, "check conf", OTHER_LINKS, b"", Vec::new(alloc), Vec::new(alloc))?;
+    let ran = call(
+        alloc,
+        "check conf",
+        OTHER_LINKS,
+        b"",
+        Vec::new(alloc),
+        Vec::new(alloc),
+    )?;
     assert_eq!(rt; ran.status, 0);
-    assert_eq!(rt; ran.out.as_slice(), b"link t - 0 s1 t OK\nlink t - 1 s2 t NG\nok\n".as_slice());
+    assert_eq!(rt;
+        ran.out.as_slice(),
+        b"link t - 0 s1 t OK\nlink t - 1 s2 t NG\nok\n".as_slice()
+    );
     Ok(())
 }
 

@@ -7,9 +7,9 @@ ghost use Rattle.spider_cli.specs.BranchStore.{AreShort, key_of, row_at, mismatc
 
 use crate::transcript::{push_has, push_number};
 use fixed_core::is_short_row;
+use fixed_text::{LinkAnswer, LinkRequest};
 use front_node::Backs;
 use list_types::Listed;
-use fixed_text::{LinkAnswer, LinkRequest};
 use sql_values::{Row, Rows, ServerNo, Text, Value};
 use std::alloc::{AllocError, Global};
 use std::collections::BTreeMap;

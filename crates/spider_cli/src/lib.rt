@@ -30,9 +30,9 @@ mod wire_play;
 mod world;
 mod world_play;
 
+use catalog::{Catalog, read_catalog};
 pub use conf::FIRST_CONF;
 use conf::{broken_rule, is_built, refusal};
-use catalog::{Catalog, read_catalog};
 use conf_check::links_text;
 use laws::is_plain;
 use list_types::Text;
@@ -90,12 +90,7 @@ fn refused(alloc: Global, conf: &[u8]) -> Outcome
 }
 
 /// Plays the input on the configuration that is built.
-fn play_built<I: Source, O: Sink>(
-    alloc: Global,
-    conf: &[u8],
-    input: &mut I,
-    out: &mut O,
-) -> Outcome
+fn play_built<I: Source, O: Sink>(alloc: Global, conf: &[u8], input: &mut I, out: &mut O) -> Outcome
     requires { conf.now ≡ FIRST_CONF.now }
     ensures { (path : List ℕ) → RunsOn I.gives I.has_ended I.faults O.takes O.faults input.old input.new out.old out.new conf.now (Play path) result }
 {

@@ -5,9 +5,9 @@ ghost use Rattle.std.specs.List.{flat_map};
 ghost use Rattle.spider_cli.specs.Transcript.{line_end, tx_text, tx_or_none, cell_text, cells_text, row_line, value_text, next_value, values_text, has_line, reply_text, output_text};
 
 use fixed_core::{Output, TxNo, VARCHAR};
+use fixed_text::push_quoted;
 use itoa::Buffer;
 use my_messages::{Cell, CellRow, Column, Reply};
-use fixed_text::push_quoted;
 use sql_values::{Row, Value};
 use std::alloc::AllocError;
 
