@@ -97,7 +97,7 @@ module _ {F S K : Type 0} (holds : F → List ℕ → Option (List ℕ) → Type
 
   -- one that is checked
   check_front : (conf : List ℕ) (how : Outcome) → Checked takes write_faults sink full conf how → (full ≡ sink) ⊎ LinksFront takes sink full
-  check_front conf outcome.Done d = inr (record { catalog = d.0; written = links_text d.0; taken = d.2; front = ([], sym (append-nil (links_text d.0))) })
+  check_front conf outcome.Done d = inr (record { catalog = d.0; written = links_text d.0; taken = d.2; front = ([], append-nil (links_text d.0)) })
   check_front conf (outcome.Fault object.Output) d = inr d.1
   check_front conf (outcome.Fault object.Input) d = absurd d
   check_front conf (outcome.Fault object.Conf) d = absurd d
@@ -152,7 +152,7 @@ module _ {F S K : Type 0} (holds : F → List ℕ → Option (List ℕ) → Type
       }
 
   whole_on : (conf : List ℕ) (form : Form) → DoesOn gives has_ended read_faults takes write_faults source rest sink full conf form outcome.Done → Whole (Some form)
-  whole_on conf (Check path) d = (d.0, (d.1.0, d.1.2))
+  whole_on conf (Check path) d = (d.0, d.1.0, d.1.2)
   whole_on conf (Play path) d = whole_by (Play path) d.1
   whole_on conf (Wire path) d = whole_by (Wire path) d.1
 
