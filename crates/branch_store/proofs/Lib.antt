@@ -1,0 +1,4 @@
+pub mod Firsts
+pub mod Fitting
+pub mod Keyed
+pub mod Turns

@@ -1,0 +1,18 @@
+use Rattle.std.proofs.Common.{◌≡◌, List, ◌∷◌, ◌++◌, [], Option, Some, None, sym, ap, ◌∙◌, subst, set}
+use Rattle.std.specs.List.{position}
+use Rattle.branch_store.specs.declared.branch.Branch.{Branch}
+use Rattle.branch_store.specs.declared.branch.Change.{Change}
+use Rattle.branch_store.specs.Faults.{has_xid, is_own}
+use Rattle.branch_store.specs.Store.{add_change, at_stage}
+use Rattle.branch_store.proofs.Firsts.{changed_there, without_there, none_changed, none_gone, none_there}
+use Rattle.branch_store.proofs.branches.remove_own.Goals as goal
+
+pub returns-in-None : goal.returns-in-None
+returns-in-None c =
+    let P : List Branch → Type 0 = λ xs. None ≡ position (is_own c.args.conn) xs in
+    sym (none_gone (is_own c.args.conn) c.args.branches.now.items (none_there (is_own c.args.conn) c.args.branches.now.items (sym (subst P c.as_slice.ensures.value c.in-None.ensures))))
+
+pub returns : goal.returns
+returns c =
+    let P : List Branch → Type 0 = λ xs. Some c.in-Some.place ≡ position (is_own c.args.conn) xs in
+    c.remove-gone.ensures.items ∙ sym (without_there (is_own c.args.conn) c.args.branches.now.items c.in-Some.place c.remove-gone.result (sym (subst P c.as_slice.ensures.value c.in-Some.ensures)))

@@ -1,0 +1,9 @@
+pub mod Answers
+pub mod Changes
+pub mod Deeds
+pub mod Faults
+pub mod Keyed
+pub mod Lists
+pub mod Opening
+pub mod Store
+pub mod Tables
