@@ -1,4 +1,7 @@
+pub mod Alone
 pub mod Firsts
 pub mod Fitting
 pub mod Keyed
+pub mod Refused
 pub mod Turns
+pub mod Viewing

@@ -1,13 +1,15 @@
 -- Loops that change a table or gather rows, one step after the other.
-use Rattle.std.proofs.Common.{◌≡◌, ℕ, ◌+◌, ◌-◌, ◌<◌, ◌≤◌, suc, Bool, true, false, ◌||◌, List, [], ◌∷◌, ◌++◌, refl, arith, sym, ◌∙◌, ap, subst, cond, length, take, length-append, append_assoc}
+use Rattle.std.proofs.Common.{◌≡◌, ℕ, ◌+◌, ◌-◌, ◌<◌, ◌≤◌, suc, zero, Bool, true, false, ◌||◌, not, List, [], ◌∷◌, ◌++◌, refl, arith, sym, ◌∙◌, ap, subst, cond, length, take, drop, set, get_or, map, add-one, length-append, append_assoc}
 use Rattle.std.specs.List.{filter, list_any}
-use Rattle.std.proofs.lemmas.List.{take_all}
+use Rattle.std.proofs.lemmas.List.{take_all, drop_more}
+use Rattle.std.proofs.lemmas.List.Filters.{length-filter_both}
 use Rattle.sql_values.specs.declared.table.TableDef.{TableDef}
 use Rattle.plain_tables.specs.Rows.{Row}
 use Rattle.branch_store.specs.declared.branch.Change.{Change}
 use Rattle.branch_store.specs.declared.branch.Change.TheVariants.{Put, Del, Clear}
 use Rattle.branch_store.specs.Changes.{after, changed, has_key_in, has_key_from, is_of, without}
 use Rattle.plain_tables.specs.Inserts.{put_all}
+use Rattle.branch_store.specs.Store.{changed_table, count_seen}
 use Rattle.branch_store.specs.Tables.{Table}
 
 -- `whole` does `one` at each element of a list
@@ -64,6 +66,22 @@ module _ {X : Type 0} where
   pub all_taken : (p : X → Bool) (xs : List X) → take (length xs) (filter p xs) ≡ filter p xs
   all_taken p xs = take_all (length xs) (filter p xs) (kept_few p xs)
 
+-- A LIST FROM A PLACE ON
+
+module _ {X : Type 0} where
+  set_there : (old : List X) (p : ℕ) (t : X) (more : List X) → p < length old → set (take (suc p) old ++ more) p t ≡ take p old ++ t ∷ more
+  set_there [] p t more within = let no : ⊥ = omega arith in absurd no
+  set_there (x ∷ xs) zero t more within = refl
+  set_there (x ∷ xs) (suc p) t more within = ap (λ (l : List X). x ∷ l) (set_there xs p t more (omega arith))
+
+  pub change_placed : (f : X → X) (old new : List X) (p : ℕ) (x t : X) → p < length old → new ≡ take (p + 1) old ++ map f (drop (p + 1) old) → x ≡ get_or old p x → t ≡ f x → set new p t ≡ take p old ++ map f (drop p old)
+  change_placed f old new p x t within made at is =
+      let rest : List X = map f (drop (p + 1) old) in
+      let next : drop p old ≡ x ∷ drop (p + 1) old = drop_more old p x within ∙ ap (λ (z : X). z ∷ drop (p + 1) old) (sym at) in
+      let front : take (p + 1) old ≡ take (suc p) old = ap (λ n. take n old) (add-one p) in
+      ap (λ (l : List X). set l p t) (made ∙ ap (λ (l : List X). l ++ rest) front)
+      ∙ (set_there old p t rest within ∙ (ap (λ (z : X). take p old ++ z ∷ rest) is ∙ ap (λ (l : List X). take p old ++ map f l) (sym next)))
+
 -- CHANGES OF OTHER TABLES
 
 apart_by : (b c : Bool) → (b || c) ≡ false → (b ≡ false) × (c ≡ false)
@@ -71,12 +89,23 @@ apart_by true c is = let no : ⊥ = cc in absurd no
 apart_by false c is = (refl, is)
 
 same_rows : (def : TableDef) (rows : List Row) (change : Change) → is_of def change ≡ false → changed def rows change ≡ rows
-same_rows def rows (Put table news) no = ap (λ b. cond b (put_all def rows news) rows) no
-same_rows def rows (Del table keys) no = ap (λ b. cond b (without (has_key_in def keys) rows) rows) no
-same_rows def rows (Clear table low high) no = ap (λ b. cond b (without (has_key_from def low high) rows) rows) no
+same_rows def rows (Put table news) apart = ap (λ b. cond b (put_all def rows news) rows) apart
+same_rows def rows (Del table keys) apart = ap (λ b. cond b (without (has_key_in def keys) rows) rows) apart
+same_rows def rows (Clear table low high) apart = ap (λ b. cond b (without (has_key_from def low high) rows) rows) apart
 
 pub not_changed : (def : TableDef) (changes : List Change) (rows : List Row) → list_any (is_of def) changes ≡ false → after def changes rows ≡ rows
-not_changed def [] rows no = refl
-not_changed def (change ∷ changes) rows no =
-    let each = apart_by (is_of def change) (list_any (is_of def) changes) no in
+not_changed def [] rows apart = refl
+not_changed def (change ∷ changes) rows apart =
+    let each = apart_by (is_of def change) (list_any (is_of def) changes) apart in
     ap (λ (rs : List Row). after def changes rs) (same_rows def rows change each.0) ∙ not_changed def changes rows each.1
+
+-- COUNTS
+
+-- a table as changes leave it, and then without the rows that pass a test: as many went as passed
+pub counted : (test : TableDef → Row → Bool) (changes : List Change) (self old new : Table) (before now : ℕ) → old ≡ changed_table changes self → new ≡ record old { rows = without (test old.def) old.rows } → before ≡ length old.rows → now ≡ length new.rows
+    → (now ≤ before) × (before - now ≡ count_seen changes self (test self.def))
+counted test changes self old new before now seen gone first second =
+    let both = length-filter_both (test old.def) (λ row. not (test old.def row)) (λ row. refl) old.rows in
+    let left : now ≡ length (without (test old.def) old.rows) = second ∙ ap (λ (t : Table). length t.rows) gone in
+    (omega arith,
+      (let went : before - now ≡ length (filter (test old.def) old.rows) = omega arith in went ∙ ap (λ (t : Table). length (filter (test t.def) t.rows)) seen))

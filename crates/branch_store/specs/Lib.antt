@@ -3,6 +3,7 @@ pub mod Changes
 pub mod Deeds
 pub mod Faults
 pub mod Keyed
+pub mod Laws
 pub mod Lists
 pub mod Opening
 pub mod Store

@@ -12,6 +12,7 @@ mod branch;
 mod branches;
 mod checking;
 mod fault;
+pub mod laws;
 mod opening;
 mod recovering;
 mod remote_table;

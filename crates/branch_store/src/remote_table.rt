@@ -301,7 +301,6 @@ impl RemoteTable {
     }
 
     /// The first rows on which a condition, where there is one, holds, at most so many where there is a limit.
-    #[tactic(auto, using(crate::proofs::Turns::all_taken))]
     fn limited(
         &self,
         alloc: Global,
@@ -312,7 +311,7 @@ impl RemoteTable {
     {
         match limit {
             Some(most) => self.first(alloc, cond, most),
-            None => self.first(alloc, cond, self.rows.len() as u64),
+            None => self.first(alloc, cond, self.len() as u64),
         }
     }
 

@@ -8,7 +8,7 @@ ghost use Rattle.branch_store.specs.Changes.{after, has_key_in, has_key_from, is
 ghost use Rattle.branch_store.specs.Deeds.{may_do};
 ghost use Rattle.branch_store.specs.Faults.{is_own, scan_fault as fault_of_scan, may_end, may_prepare};
 ghost use Rattle.branch_store.specs.Opening.{are_tables as are_definitions, empty_tables};
-ghost use Rattle.branch_store.specs.Store.{Store, store_step, started as start_step, moved, committed, rolled_back, hung_up, scanned, put as put_step, deleted, work_on, found, count_seen, changed_table, recovered, viewed, viewed_rows, table_called, with_change};
+ghost use Rattle.branch_store.specs.Store.{Store, store_step, started as start_step, moved, committed, rolled_back, hung_up, scanned, put as put_step, deleted, work_on, found, count_seen, changed_table, prepared_changes, recovered, viewed, viewed_rows, table_called, with_change};
 
 use crate::branches::{
     Deed, add_change, deed_fault, living, own, prepared, remove, remove_own, set_stage, start_fault,
@@ -133,11 +133,19 @@ impl BranchStore {
     {
         let mut seen = table.copy()?;
         for xid in xids.as_slice() {
-            if let Some(branch) = prepared(self.branches.as_slice(), xid) {
-                seen.change_all(branch.changes.as_slice())?;
-            }
+            self.see(&mut seen, xid)?;
         }
         seen.into_rows(alloc)
+    }
+
+    /// Makes the changes of the prepared branch of this name, where there is one.
+    fn see(&self, seen: &mut RemoteTable, xid: &Xid) -> Result<(), AllocError>
+        ensures { OnOk result (seen.new ≡ changed_table (prepared_changes self.now.branches xid.now) seen.old) }
+    {
+        match prepared(self.branches.as_slice(), xid) {
+            Some(branch) => seen.change_all(branch.changes.as_slice()),
+            None => Ok(()),
+        }
     }
 
     /// Begins a branch.

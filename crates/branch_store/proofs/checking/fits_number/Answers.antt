@@ -6,4 +6,4 @@ use Rattle.branch_store.proofs.checking.fits_number.Goals as goal
 pub returns-in-BigInt : goal.returns-in-BigInt
 returns-in-BigInt c =
     let fits : FitsSigned w64 c.args.number.now = search rules in
-    number_fits c.args.number.now fits
+    rw c.in-BigInt.is (number_fits c.args.number.now fits)
