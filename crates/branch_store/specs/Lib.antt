@@ -6,5 +6,6 @@ pub mod Keyed
 pub mod Laws
 pub mod Lists
 pub mod Opening
+pub mod Sound
 pub mod Store
 pub mod Tables

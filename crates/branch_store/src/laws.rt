@@ -1,6 +1,7 @@
 //! What holds of the store.
 
 ghost use Rattle.branch_store.specs.Laws.{RefusalsChangeNothing, CommitsKeepPuts, RollbacksLeaveNothing};
+ghost use Rattle.branch_store.specs.Sound.{AnswersHaveForm, HangupsKeepRows, StepsKeepRows};
 
 /// A refused request changes nothing.
 pub fn refusals_change_nothing()
@@ -15,4 +16,19 @@ pub fn commits_keep_puts()
 /// A branch alone that is rolled back leaves the tables as they were.
 pub fn rollbacks_leave_nothing()
     ensures { RollbacksLeaveNothing }
+{}
+
+/// Each request leaves a store in which the rows of a table are rows of it, with rising keys, where it finds one.
+pub fn steps_keep_rows()
+    ensures { StepsKeepRows }
+{}
+
+/// So does the end of a connection.
+pub fn hangups_keep_rows()
+    ensures { HangupsKeepRows }
+{}
+
+/// In such a store a scan is answered by rows of its table, or refused.
+pub fn answers_have_form()
+    ensures { AnswersHaveForm }
 {}
