@@ -95,8 +95,8 @@ module _ (tables : List Table) (conn : ℕ) (xid : Xid) (name : List ℕ) (rows 
       let left : List Table → List Branch → Store = λ ts bs. record { tables = ts; branches = bs } in
       unless_done (one tables b) may_commit b (living (one tables b) xid) (left (map (changed_table (changes_of (living (one tables b) xid))) tables) (without_first (has_xid xid) (b ∷ [])), Done 0) lives refl
       ∙ (ap (λ f. left (map (changed_table (changes_of f)) tables) (without_first (has_xid xid) (b ∷ []))) lives
-        ∙ (ap (λ ts. left ts (without_first (has_xid xid) (b ∷ []))) (map_same (changed_table (Put name rows ∷ [])) (put_into name rows) (λ t. put_by t rows (is_called name t.def)) tables)
-          ∙ ap (λ bs. left (map (put_into name rows) tables) bs) (gone_one (has_xid xid) b (is_mine Prepared (Put name rows ∷ [])))))
+      ∙ (ap (λ ts. left ts (without_first (has_xid xid) (b ∷ []))) (map_same (changed_table (Put name rows ∷ [])) (put_into name rows) (λ t. put_by t rows (is_called name t.def)) tables)
+      ∙ ap (λ bs. left (map (put_into name rows) tables) bs) (gone_one (has_xid xid) b (is_mine Prepared (Put name rows ∷ [])))))
 
   rolling : (rolled_back (one tables asked) conn xid).0 ≡ at_rest tables
   rolling =
@@ -110,7 +110,7 @@ commits_keep_puts tables conn other xid name rows table there fit =
     let made : List (ℕ × LinkRequest) = (other, request.Commit xid) ∷ [] in
     ap (λ s. after_all s ended) (putting tables conn xid name rows table there fit)
     ∙ (ap (λ s. after_all s readied) (moving tables conn xid name rows (may_end conn) Active Ended (Put name rows ∷ []) (both (conn == conn) true (same_number conn) refl))
-      ∙ (ap (λ s. after_all s made) (moving tables conn xid name rows (may_prepare conn) Ended Prepared (Put name rows ∷ []) (both (conn == conn) true (same_number conn) refl)) ∙ committing tables conn xid name rows))
+    ∙ (ap (λ s. after_all s made) (moving tables conn xid name rows (may_prepare conn) Ended Prepared (Put name rows ∷ []) (both (conn == conn) true (same_number conn) refl)) ∙ committing tables conn xid name rows))
 
 pub rollbacks_leave_nothing : RollbacksLeaveNothing
 rollbacks_leave_nothing tables conn xid name rows table there fit =

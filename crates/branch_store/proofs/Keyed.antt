@@ -59,9 +59,10 @@ module _ (def : TableDef) where
       let at : int_lt k e.0 ≡ true = below k e.0 up.0 in
       let here : e.0 ≡ key_of def e.1 = keyed.0 in
       let more : int_lt (key_of def row) (key_of def e.1) ≡ true = rw is (rw (sym here) at) in
-      let less : int_lt (key_of def e.1) (key_of def row) ≡ false = grind (arith, ints) in
-      (ap (λ b. cond b (e.1 ∷ filter (lower row) (values_of es)) (filter (lower row) (values_of es))) less ∙ rest.0,
-        ap (λ b. cond b (e.1 ∷ filter (higher row) (values_of es)) (filter (higher row) (values_of es))) more ∙ ap (λ (rs : List Row). e.1 ∷ rs) rest.1)
+      let less : int_lt (key_of def e.1) (key_of def row) ≡ false = grind (arith, ints) in (
+        ap (λ b. cond b (e.1 ∷ filter (lower row) (values_of es)) (filter (lower row) (values_of es))) less ∙ rest.0,
+        ap (λ b. cond b (e.1 ∷ filter (higher row) (values_of es)) (filter (higher row) (values_of es))) more ∙ ap (λ (rs : List Row). e.1 ∷ rs) rest.1,
+      )
 
   -- a row's place among rows, by the order of its key and that of the first
   placed : (row : Row) (k : ℤ) (e : ℤ × Row) (es : List (ℤ × Row)) (o : Ordering) → int_cmp k e.0 ≡ o → key_of def row ≡ k → Keyed def (e ∷ es) → AllByRecursion (λ y. int_cmp e.0 y ≡ Less) (keys_of es)
@@ -70,7 +71,7 @@ module _ (def : TableDef) where
   placed row k e es Less at is keyed up rest =
       let both = above_all row k (e ∷ es) is keyed (at, up_all k e.0 (keys_of es) at up) in
       let made : put def (values_of (e ∷ es)) row ≡ row ∷ values_of (e ∷ es) =
-          ap (λ (l : List Row). l ++ row ∷ filter (higher row) (values_of (e ∷ es))) both.0 ∙ ap (λ (h : List Row). row ∷ h) both.1 in
+      ap (λ (l : List Row). l ++ row ∷ filter (higher row) (values_of (e ∷ es))) both.0 ∙ ap (λ (h : List Row). row ∷ h) both.1 in
       sym made
   placed row k e es Equal at is keyed up rest =
       let same : k ≡ e.0 = exact_signed k e.0 at in
@@ -91,7 +92,7 @@ module _ (def : TableDef) where
       let low : filter (lower row) (values_of (e ∷ es)) ≡ e.1 ∷ filter (lower row) (values_of es) = ap (λ b. cond b (e.1 ∷ filter (lower row) (values_of es)) (filter (lower row) (values_of es))) less in
       let high : filter (higher row) (values_of (e ∷ es)) ≡ filter (higher row) (values_of es) = ap (λ b. cond b (e.1 ∷ filter (higher row) (values_of es)) (filter (higher row) (values_of es))) more in
       let made : put def (values_of (e ∷ es)) row ≡ e.1 ∷ put def (values_of es) row =
-          ap (λ (l : List Row). l ++ row ∷ filter (higher row) (values_of (e ∷ es))) low ∙ ap (λ (h : List Row). (e.1 ∷ filter (lower row) (values_of es)) ++ row ∷ h) high in
+      ap (λ (l : List Row). l ++ row ∷ filter (higher row) (values_of (e ∷ es))) low ∙ ap (λ (h : List Row). (e.1 ∷ filter (lower row) (values_of es)) ++ row ∷ h) high in
       ap (λ (rs : List Row). e.1 ∷ rs) rest ∙ sym made
 
   -- a row put under its key

@@ -143,11 +143,12 @@ still_definitions changes (table ∷ tables) all = (all.0, still_definitions cha
 later_differs : (name : List ℕ) (first : TableDef) (defs : List TableDef) (rows : List Row) → is_called name first ≡ true → not (list_any (is_called first.name) defs) ≡ true → FitsTables defs (Put name rows)
 later_differs name first [] rows called apart = tt
 later_differs name first (def ∷ defs) rows called apart =
-    let each = neither_of (is_called first.name def) (list_any (is_called first.name) defs) apart in
-    ((λ also.
-        let meets : pointwise nat_eq first.name def.name ≡ true = nat_list_eq_equiv.congr first.name name def.name called ∙ (nat_list_eq_equiv.symm name def.name ∙ also) in
-        absurd (false≢true (sym each.0 ∙ (nat_list_eq_equiv.symm def.name first.name ∙ meets)))),
-      later_differs name first defs rows called each.1)
+    let each = neither_of (is_called first.name def) (list_any (is_called first.name) defs) apart in (
+      (λ also.
+          let meets : pointwise nat_eq first.name def.name ≡ true = nat_list_eq_equiv.congr first.name name def.name called ∙ (nat_list_eq_equiv.symm name def.name ∙ also) in
+          absurd (false≢true (sym each.0 ∙ (nat_list_eq_equiv.symm def.name first.name ∙ meets)))),
+      later_differs name first defs rows called each.1,
+    )
 
 -- rows that fit the first table of a name fit each table of the name
 put_fits_by : (name : List ℕ) (rows : List Row) (table : Table) (tables : List Table) (rest : Option Table) (b : Bool) → is_called name table.def ≡ b → are_apart (map definition (table ∷ tables)) ≡ true
@@ -247,7 +248,7 @@ steps_keep_rows store conn (request.Commit xid) sound =
     let defs : List TableDef = map definition store.tables in
     unless_sound store (branch_fault may_commit (living store xid)) (record { tables = map (changed_table (changes_of (living store xid))) store.tables; branches = without_first (has_xid xid) store.branches }, Done 0) sound
     (commit_sound store (changes_of (living store xid)) (without_first (has_xid xid) store.branches) sound (fit_changes defs (living store xid) (all_found (FitBranch defs) (has_xid xid) store.branches sound.branches))
-      (all_without (FitBranch defs) (has_xid xid) store.branches sound.branches))
+    (all_without (FitBranch defs) (has_xid xid) store.branches sound.branches))
 steps_keep_rows store conn (request.Rollback xid) sound =
     unless_sound store (branch_fault (may_roll_back conn) (living store xid)) (with_branches store (without_first (has_xid xid) store.branches), Done 0) sound (gone_sound store (has_xid xid) sound)
 steps_keep_rows store conn request.Recover sound = sound
@@ -313,7 +314,7 @@ found_fits store scan changes table sound fit there =
     let each : AllByRecursion take_changes store.tables = all_unmapped (λ def. AllByRecursion (λ change. FitsTable change def) changes) definition store.tables (all_by (λ def. AllByRecursion (λ change. FitsTable change def) changes) defs (λ def at. fit_one defs def at changes fit)) in
     let its : take_changes table = subst (λ o. IfSome o take_changes) there (all_found take_changes called store.tables each) in
     let all : AllByRecursion (IsRow table.def) (found changes table scan) =
-        first_fit table.def scan.limit (kept table.def scan.cond (seen changes table)) (all_filter (IsRow table.def) (holds_on table.def scan.cond) (seen changes table) (after_fits table.def changes table.rows rows its).fit) in
+    first_fit table.def scan.limit (kept table.def scan.cond (seen changes table)) (all_filter (IsRow table.def) (holds_on table.def scan.cond) (seen changes table) (after_fits table.def changes table.rows rows its).fit) in
     ap (λ t. are_rows_of t (found changes table scan)) there ∙ all_rows (is_row table.def) (found changes table scan) all
 
 pub answers_have_form : AnswersHaveForm

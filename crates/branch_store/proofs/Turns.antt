@@ -21,7 +21,7 @@ module _ {A : Type 0} (whole : TableDef → List Row → List A → List Row) (o
   turn more old now new x y left rest all made is next same so_far =
       let P : Table → Type 0 = λ t. (t.def ≡ old.def) × (whole t.def t.rows rest ≡ whole t.def old.rows all) in
       let step : whole now.def (one now.def now.rows y) rest ≡ whole now.def now.rows left =
-          ap (λ (z : A). whole now.def (one now.def now.rows z) rest) is ∙ (sym (more now.def now.rows x rest) ∙ ap (λ (l : List A). whole now.def now.rows l) (sym next)) in
+      ap (λ (z : A). whole now.def (one now.def now.rows z) rest) is ∙ (sym (more now.def now.rows x rest) ∙ ap (λ (l : List A). whole now.def now.rows l) (sym next)) in
       subst P (sym made) (same, step ∙ so_far)
 
   pub last : (none : (def : TableDef) (rows : List Row) → whole def rows [] ≡ rows)
@@ -30,7 +30,7 @@ module _ {A : Type 0} (whole : TableDef → List Row → List A → List Row) (o
       let with_def : TableDef → Table = λ def. record { def = def; rows = now.rows } in
       let with_rows : List Row → Table = λ rows. record { def = old.def; rows = rows } in
       let rows : now.rows ≡ whole old.def old.rows all =
-          sym (none now.def now.rows) ∙ (ap (λ (l : List A). whole now.def now.rows l) (sym end) ∙ (so_far ∙ ap (λ (d : TableDef). whole d old.rows all) same)) in
+      sym (none now.def now.rows) ∙ (ap (λ (l : List A). whole now.def now.rows l) (sym end) ∙ (so_far ∙ ap (λ (d : TableDef). whole d old.rows all) same)) in
       ap with_def same ∙ ap with_rows rows
 
 module _ {X : Type 0} where
@@ -48,11 +48,12 @@ module _ {X : Type 0} where
   took p most rows new left it all x y made is next pass few so_far =
       let now : new ≡ rows ++ x ∷ [] = made ∙ ap (λ (z : X). rows ++ z ∷ []) is in
       let long : length new ≡ length rows + 1 = ap length now ∙ length-append rows (x ∷ []) in
-      let found : filter p it ≡ x ∷ filter p left = ap (filter p) next ∙ ap (λ b. cond b (x ∷ filter p left) (filter p left)) pass in
-      (omega arith,
+      let found : filter p it ≡ x ∷ filter p left = ap (filter p) next ∙ ap (λ b. cond b (x ∷ filter p left) (filter p left)) pass in (
+        omega arith,
         ap (λ (l : List X). l ++ take (most - length new) (filter p left)) now
-        ∙ (sym (took_by rows (filter p left) x (most - length rows) (most - length new) (omega arith))
-          ∙ (ap (λ (l : List X). rows ++ take (most - length rows) l) (sym found) ∙ so_far)))
+            ∙ (sym (took_by rows (filter p left) x (most - length rows) (most - length new) (omega arith))
+            ∙ (ap (λ (l : List X). rows ++ take (most - length rows) l) (sym found) ∙ so_far)),
+      )
 
   shorter : (p : X → Bool) (x : X) (xs : List X) (b : Bool) → length (filter p xs) ≤ length xs → length (cond b (x ∷ filter p xs) (filter p xs)) ≤ length (x ∷ xs)
   shorter p x xs true less = omega arith
@@ -106,6 +107,7 @@ pub counted : (test : TableDef → Row → Bool) (changes : List Change) (self o
     → (now ≤ before) × (before - now ≡ count_seen changes self (test self.def))
 counted test changes self old new before now seen gone first second =
     let both = length-filter_both (test old.def) (λ row. not (test old.def row)) (λ row. refl) old.rows in
-    let left : now ≡ length (without (test old.def) old.rows) = second ∙ ap (λ (t : Table). length t.rows) gone in
-    (omega arith,
-      (let went : before - now ≡ length (filter (test old.def) old.rows) = omega arith in went ∙ ap (λ (t : Table). length (filter (test t.def) t.rows)) seen))
+    let left : now ≡ length (without (test old.def) old.rows) = second ∙ ap (λ (t : Table). length t.rows) gone in (
+      omega arith,
+      (let went : before - now ≡ length (filter (test old.def) old.rows) = omega arith in went ∙ ap (λ (t : Table). length (filter (test t.def) t.rows)) seen),
+    )

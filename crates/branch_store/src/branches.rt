@@ -104,9 +104,7 @@ pub(crate) fn own(branches: &[Branch], conn: u32) -> Option<&Branch>
 pub(crate) fn prepared<'a>(branches: &'a [Branch], xid: &Xid) -> Option<&'a Branch>
     ensures { option_map (λ b. b.now) result ≡ find (λ b. has_xid xid.now b && has_been_prepared b.stage) branches.now }
 {
-    branches
-        .iter()
-        .find(|branch| is_called(branch, xid) && branch.stage.is_prepared())
+    branches.iter().find(|branch| is_called(branch, xid) && branch.stage.is_prepared())
 }
 
 /// Why a branch of this name can't begin on the connection.

@@ -14,7 +14,9 @@ ghost use Rattle.branch_store.specs.Faults.{fits as can_hold, is_row as row_of, 
 use crate::BranchFault;
 use crate::remote_table::RemoteTable;
 use sql_text::Scan;
-use sql_values::{CheckFault, ColumnDef, Cond, Kind, Literal, Name, Row, Rows, TableDef, Value, check_cond};
+use sql_values::{
+    CheckFault, ColumnDef, Cond, Kind, Literal, Name, Row, Rows, TableDef, Value, check_cond,
+};
 use std::alloc::{AllocError, Global};
 
 /// The most bytes of a text in a column.

@@ -8,6 +8,7 @@
 //! There are no locks and no log yet: branches may change the same rows, and what is committed later is on top.
 #![tactic(auto)]
 
+mod books;
 mod branch;
 mod branches;
 mod checking;
@@ -22,3 +23,6 @@ pub use branch::{Branch, Change, Changes, Stage};
 pub use fault::BranchFault;
 pub use opening::{MOST_COLUMNS, are_tables};
 pub use store::BranchStore;
+
+#[cfg(test)]
+mod tests;

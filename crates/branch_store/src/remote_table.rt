@@ -34,7 +34,7 @@ impl Model for RemoteTable {
     ghost use Rattle.std.specs.Map.{values_of};
     ghost use Rattle.branch_store.specs.Keyed.{AreKeyed};
     ghost use Rattle.branch_store.specs.Store.{changed_table, count_seen, first_rows, found as found_by};
-ghost use Rattle.branch_store.specs.Tables.{Table};
+    ghost use Rattle.branch_store.specs.Tables.{Table};
 
     ghost Value = { Table };
 

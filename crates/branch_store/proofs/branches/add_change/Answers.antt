@@ -20,4 +20,4 @@ returns-clause-ok c =
     let with : List Change → List Branch = λ changes. set items c.in-Some.place (record { xid = d.xid; stage = d.stage; owner = d.owner; changes = changes }) in
     ap with c.in_ok-push.ensures.ok
     ∙ sym (changed_there (is_own c.args.conn) (add_change c.args.change) items c.in-Some.place d (sym (subst P c.as_slice.ensures.value c.in-Some.ensures))
-        ∙ ap (λ (b : Branch). set items c.in-Some.place (add_change c.args.change b)) (sym c.index_mut-branch.ensures.value))
+    ∙ ap (λ (b : Branch). set items c.in-Some.place (add_change c.args.change b)) (sym c.index_mut-branch.ensures.value))

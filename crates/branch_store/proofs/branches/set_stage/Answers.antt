@@ -17,4 +17,4 @@ returns c =
     let P : List Branch → Type 0 = λ xs. Some c.in-Some.place ≡ position (has_xid c.args.xid.now) xs in
     let items = c.args.branches.now.items in
     sym (changed_there (has_xid c.args.xid.now) (at_stage c.args.stage) items c.in-Some.place c.index_mut.result.now (sym (subst P c.as_slice.ensures.value c.in-Some.ensures))
-        ∙ ap (λ (b : Branch). set items c.in-Some.place (at_stage c.args.stage b)) (sym c.index_mut.ensures.value))
+    ∙ ap (λ (b : Branch). set items c.in-Some.place (at_stage c.args.stage b)) (sym c.index_mut.ensures.value))

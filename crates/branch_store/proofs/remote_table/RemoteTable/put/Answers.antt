@@ -12,7 +12,7 @@ invariant_of-self-2 c =
     let row = c.args.row.now in
     let is : key_of c.self.inside.def row ≡ c.key-key.result.now = ap (λ (t : Table). key_of t.def row) c.self.view_is ∙ sym c.key-key.ensures in
     let made : c.insert_at.new.rows.entries ≡ insert_entry int_cmp c.self.inside.rows.entries c.key-key.result.now row =
-        c.in_ok-insert_at.ensures.put ∙ ap (λ (r : Row). insert_entry int_cmp c.self.inside.rows.entries c.key-key.result.now r) c.in_ok-copy.ensures in
+    c.in_ok-insert_at.ensures.put ∙ ap (λ (r : Row). insert_entry int_cmp c.self.inside.rows.entries c.key-key.result.now r) c.in_ok-copy.ensures in
     (c.self.invariant.0, insert_keeps c.self.inside.def row c.key-key.result.now c.self.inside.rows.entries c.insert_at.new.rows.entries made is c.self.invariant.1 c.in_ok-insert_at.ensures.ordered)
 
 pub returns : goal.returns
@@ -20,8 +20,8 @@ returns c =
     let row = c.args.row.now in
     let is : key_of c.self.inside.def row ≡ c.key-key.result.now = ap (λ (t : Table). key_of t.def row) c.self.view_is ∙ sym c.key-key.ensures in
     let made : c.insert_at.new.rows.entries ≡ insert_entry int_cmp c.self.inside.rows.entries c.key-key.result.now row =
-        c.in_ok-insert_at.ensures.put ∙ ap (λ (r : Row). insert_entry int_cmp c.self.inside.rows.entries c.key-key.result.now r) c.in_ok-copy.ensures in
+    c.in_ok-insert_at.ensures.put ∙ ap (λ (r : Row). insert_entry int_cmp c.self.inside.rows.entries c.key-key.result.now r) c.in_ok-copy.ensures in
     record {
       ok = seen_as (λ def rows. put def rows row) c.self.inside.def c.args.self.now c.self.inside.rows.entries c.insert_at.new.rows.entries c.self.view_is
-      (rw made (inserted c.self.inside.def row c.key-key.result.now c.self.inside.rows.entries is c.self.invariant.1));
+          (rw made (inserted c.self.inside.def row c.key-key.result.now c.self.inside.rows.entries is c.self.invariant.1));
     }

@@ -13,7 +13,7 @@ loop-row-preserved c =
     let items = c.as_slice-row-items.result.now in
     let P : List Row → Type 0 = λ l. drop i l ≡ c.row-item.result ∷ drop (i + 1) l in
     let next : drop i rows ≡ c.row-item.result ∷ drop (i + 1) rows =
-        subst P c.as_slice-row-items.ensures (drop_more items i c.row-item.result c.loop-row-test.true ∙ ap (λ (z : Row). z ∷ drop (i + 1) items) (sym c.row-item.is)) in
+    subst P c.as_slice-row-items.ensures (drop_more items i c.row-item.result c.loop-row-test.true ∙ ap (λ (z : Row). z ∷ drop (i + 1) items) (sym c.row-item.is)) in
     let step = turn put_all put put_more c.args.self.now c.loop-row.self c.put.new.self c.row-item.result c.row-item.result (drop i rows) (drop (i + 1) rows) rows c.in_ok-put.ensures.ok refl next c.loop-row.invariant.same c.loop-row.invariant.so_far in
     record { same = step.0; so_far = step.1 }
 

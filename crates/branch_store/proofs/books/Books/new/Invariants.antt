@@ -1,6 +1,6 @@
 use Rattle.std.proofs.Common.{◌≡◌, map}
 use Rattle.branch_store.specs.Opening.{empty_tables}
-use Rattle.branch_store.proofs.store.BranchStore.new.Given as goal
+use Rattle.branch_store.proofs.books.Books.new.Given as goal
 
 abbrev pub invariant-loop-def : goal.invariant-loop-def
 invariant-loop-def l = l.list.items ≡ empty_tables l.yielded

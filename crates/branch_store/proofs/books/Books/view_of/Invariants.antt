@@ -1,6 +1,6 @@
 use Rattle.std.proofs.Common.{◌≡◌, drop}
 use Rattle.branch_store.proofs.Viewing.{views}
-use Rattle.branch_store.proofs.store.BranchStore.view_of.Given as goal
+use Rattle.branch_store.proofs.books.Books.view_of.Given as goal
 
 abbrev pub invariant-loop-xid : goal.invariant-loop-xid
 invariant-loop-xid l = record {
