@@ -1,6 +1,6 @@
 -- One branch alone.
-use Rattle.std.proofs.Common.{◌≡◌, ℕ, ◌==◌, nat_eq, Bool, true, false, ◌&&◌, List, [], ◌∷◌, ◌++◌, map, Option, Some, None, Result, Ok, Err, refl, arith, sym, ◌∙◌, ap, cond, length}
-use Rattle.std.specs.List.{find, fold, list_all}
+use Rattle.std.proofs.Common.{◌≡◌, ℕ, ◌==◌, nat_eq, Bool, true, false, ◌&&◌, List, [], ◌∷◌, map, Option, Some, None, Ok, refl, arith, ◌∙◌, ap, cond, length}
+use Rattle.std.specs.List.{find, list_all}
 use Rattle.std.specs.Cmp.Lexicographic.{pointwise, nat_list_eq_equiv}
 use Rattle.sql_values.specs.declared.places.Xid.{Xid}
 use Rattle.sql_text.specs.declared.link.LinkAnswer.{LinkAnswer}
@@ -14,7 +14,6 @@ use Rattle.branch_store.specs.declared.branch.Change.{Change}
 use Rattle.branch_store.specs.declared.branch.Change.TheVariants.{Put}
 use Rattle.branch_store.specs.declared.branch.Stage.{Stage}
 use Rattle.branch_store.specs.declared.branch.Stage.TheVariants.{Active, Ended, Prepared}
-use Rattle.branch_store.specs.declared.fault.BranchFault.{BranchFault}
 use Rattle.branch_store.specs.declared.fault.BranchFault.TheVariants.{WrongState, TypeMismatch}
 use Rattle.branch_store.specs.Changes.{is_called}
 use Rattle.branch_store.specs.Faults.{has_xid, is_own, is_row, branch_fault, rows_fault, may_end, may_prepare, may_commit, may_roll_back}

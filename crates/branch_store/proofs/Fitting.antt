@@ -1,5 +1,5 @@
 -- What a column can hold.
-use Rattle.std.proofs.Common.{◌≡◌, ℤ, pos, negsuc, Bool, true, Result, Ok, Err, arith, ap, sym, cond, w64}
+use Rattle.std.proofs.Common.{◌≡◌, ℤ, pos, negsuc, true, Result, Ok, Err, arith, ap, sym, cond, w64}
 use Rattle.std.specs.Prelude.{FitsSigned}
 use Rattle.std.specs.Result.{is_ok}
 use Rattle.std.proofs.lemmas.Bool.Decides.{nat_tests}

@@ -7,7 +7,7 @@ use Rattle.branch_store.specs.declared.branch.Change.{Change}
 use Rattle.branch_store.specs.declared.fault.BranchFault.{BranchFault}
 use Rattle.branch_store.specs.Faults.{start_fault, branch_fault, may_end, may_prepare, may_commit, may_roll_back, rows_fault, key_fault, scan_fault}
 use Rattle.branch_store.specs.Laws.{RefusalsChangeNothing}
-use Rattle.branch_store.specs.Store.{Store, store_step, unless_fault, working, work_on, living, own}
+use Rattle.branch_store.specs.Store.{Store, unless_fault, working, work_on, living, own}
 use Rattle.branch_store.specs.Tables.{Table}
 
 module _ (number : ℕ) (message : List ℕ) where

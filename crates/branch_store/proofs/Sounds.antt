@@ -1,7 +1,7 @@
 -- Each row stays one of its table.
-use Rattle.std.proofs.Common.{◌≡◌, ℕ, ◌==◌, nat_eq, Bool, true, false, not, ◌&&◌, ◌||◌, List, [], ◌∷◌, ◌++◌, map, take, zero, suc, Option, Some, None, Result, Ok, Err, refl, arith, sym, ◌∙◌, ap, subst, inl, inr, cond, length}
-use Rattle.std.specs.Prelude.{◌⊎◌, IfSome}
-use Rattle.std.specs.List.{AllByRecursion, Contains, filter, find, fold, list_all, list_any}
+use Rattle.std.proofs.Common.{◌≡◌, ℕ, nat_eq, Bool, true, false, not, ◌&&◌, ◌||◌, List, [], ◌∷◌, ◌++◌, map, take, zero, suc, Option, Some, None, refl, sym, ◌∙◌, ap, subst, inl, inr, cond, length}
+use Rattle.std.specs.Prelude.{IfSome}
+use Rattle.std.specs.List.{AllByRecursion, Contains, filter, find, list_all, list_any}
 use Rattle.std.specs.Cmp.Lexicographic.{pointwise, nat_list_eq_equiv}
 use Rattle.std.specs.List.Sorted.{IsStrictlySortedBy}
 use Rattle.std.proofs.lemmas.Bool.{false≢true}
@@ -9,12 +9,11 @@ use Rattle.std.proofs.lemmas.List.Elements.{Contains-append_cases}
 use Rattle.std.proofs.lemmas.List.Kept.{IsStrictlySortedBy-filter}
 use Rattle.sql_values.specs.declared.table.TableDef.{TableDef}
 use Rattle.sql_text.specs.declared.link.LinkAnswer.{LinkAnswer}
-use Rattle.sql_text.specs.declared.link.LinkAnswer.TheVariants.{Done, Rows, Xids, Refused}
-use Rattle.sql_text.specs.declared.link.LinkRequest.{LinkRequest}
+use Rattle.sql_text.specs.declared.link.LinkAnswer.TheVariants.{Done, Rows}
 use Rattle.sql_text.specs.declared.link.LinkRequest.TheVariants as request
 use Rattle.sql_text.specs.declared.link.Scan.{Scan}
 use Rattle.plain_tables.specs.Inserts.{put, put_all}
-use Rattle.plain_tables.specs.Rows.{Row, Rises, by_key, holds_on, kept}
+use Rattle.plain_tables.specs.Rows.{Row, by_key, holds_on, kept}
 use Rattle.plain_tables.proofs.Inserted.{put_rises, in_put}
 use Rattle.plain_tables.proofs.Members.{all_of, all_by, kept_passes}
 use Rattle.branch_store.specs.declared.branch.Branch.{Branch}
@@ -29,8 +28,8 @@ use Rattle.branch_store.specs.Answers.{refusal}
 use Rattle.branch_store.specs.Faults.{has_xid, is_own, is_row, start_fault, branch_fault, rows_fault, key_fault, scan_fault, may_end, may_prepare, may_commit, may_roll_back}
 use Rattle.branch_store.specs.Lists.{changed_first, without_first}
 use Rattle.branch_store.specs.Opening.{are_apart, are_tables, is_definition, empty_table, empty_tables}
-use Rattle.branch_store.specs.Sound.{IsRow, AreRows, FitsTable, FitsTables, definition, IsSound, StepsKeepRows, HangupsKeepRows, AnswersHaveForm, are_rows_of, rows_form, done_form, has_form}
-use Rattle.branch_store.specs.Store.{Store, store_step, own, living, work_on, working, and_table, with_table, own_changes, active_changes, table_called, unless_fault, with_branches, with_change, add_change, at_stage, changed_table, changes_of, seen, found, first_rows, new_branch, hung_up}
+use Rattle.branch_store.specs.Sound.{IsRow, AreRows, FitsTable, FitsTables, definition, IsSound, StepsKeepRows, HangupsKeepRows, AnswersHaveForm, are_rows_of, rows_form, done_form}
+use Rattle.branch_store.specs.Store.{Store, own, living, working, and_table, own_changes, active_changes, table_called, unless_fault, with_branches, with_change, add_change, at_stage, changed_table, changes_of, seen, found, first_rows, new_branch}
 use Rattle.branch_store.specs.Tables.{Table}
 
 -- LISTS

@@ -1,7 +1,7 @@
 -- Why a request is refused.
-use Rattle.std.specs.Prelude.{◌≡◌, ℕ, ◌==◌, Bool, true, false, not, ◌&&◌, ◌||◌, List, [], ◌∷◌, Option, Some, None, Result, Ok, Err, length, slice_get, nat_eq, if◌then◌else◌}
-use Rattle.std.specs.List.{find, list_all, zip}
-use Rattle.std.specs.Option.{option_map_or, option_or}
+use Rattle.std.specs.Prelude.{ℕ, ◌==◌, Bool, true, false, not, ◌&&◌, ◌||◌, List, [], ◌∷◌, Option, Some, None, Result, Ok, Err, length, nat_eq, if◌then◌else◌}
+use Rattle.std.specs.List.{list_all, zip}
+use Rattle.std.specs.Option.{option_or}
 use Rattle.std.specs.Result.{is_ok}
 use Rattle.std.specs.Cmp.Lexicographic.{pointwise}
 use Rattle.sql_values.specs.declared.checks.CheckFault.{CheckFault}

@@ -1,5 +1,5 @@
 -- Laws of the store.
-use Rattle.std.specs.Prelude.{◌≡◌, ℕ, true, List, [], ◌∷◌, Option, Some, map, if◌then◌else◌}
+use Rattle.std.specs.Prelude.{◌≡◌, ℕ, true, List, [], ◌∷◌, Some, map, if◌then◌else◌}
 use Rattle.std.specs.List.{fold, list_all}
 use Rattle.sql_values.specs.declared.places.Xid.{Xid}
 use Rattle.sql_text.specs.declared.link.LinkAnswer.TheVariants.{Refused}

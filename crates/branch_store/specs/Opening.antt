@@ -1,5 +1,5 @@
 -- The tables that a backend can have.
-use Rattle.std.specs.Prelude.{ℕ, Bool, true, not, ◌&&◌, List, [], ◌∷◌, map, length, nat_le}
+use Rattle.std.specs.Prelude.{Bool, true, not, ◌&&◌, List, [], ◌∷◌, map, length, nat_le}
 use Rattle.std.specs.List.{list_all, list_any}
 use Rattle.sql_values.specs.declared.table.TableDef.{TableDef}
 use Rattle.stmt_plan.specs.Apart.{has_number_key}

@@ -1,10 +1,9 @@
 -- A backend: its tables, the branches of transactions that live there, and what each request does (X/Open XA, "Distributed Transaction Processing: The XA
 -- Specification").
-use Rattle.std.specs.Prelude.{ℕ, Bool, List, [], ◌∷◌, ◌++◌, ◌&&◌, Option, Some, None, Result, Ok, Err, map, length, take, if◌then◌else◌, nat_eq}
-use Rattle.std.specs.List.{filter, find, flat_map, fold, insert}
+use Rattle.std.specs.Prelude.{ℕ, Bool, List, [], ◌∷◌, ◌++◌, ◌&&◌, Option, Some, None, Result, Ok, Err, map, length, take, if◌then◌else◌}
+use Rattle.std.specs.List.{filter, find, fold}
 use Rattle.std.specs.Map.{keys_of}
-use Rattle.std.specs.Option.{option_map_or}
-use Rattle.std.specs.Cmp.Lexicographic.{pointwise, slice_cmp}
+use Rattle.std.specs.Cmp.Lexicographic.{slice_cmp}
 use Rattle.std.specs.BTreeMap.{insert_entry}
 use Rattle.std.specs.Ordering.{nat_cmp, ordering_then}
 use Rattle.std.specs.declared.cmp.Ordering.{Ordering}

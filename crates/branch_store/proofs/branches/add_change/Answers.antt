@@ -1,10 +1,10 @@
-use Rattle.std.proofs.Common.{◌≡◌, List, ◌∷◌, ◌++◌, [], Option, Some, None, sym, ap, ◌∙◌, subst, set}
+use Rattle.std.proofs.Common.{◌≡◌, List, Some, None, sym, ap, ◌∙◌, subst, set}
 use Rattle.std.specs.List.{position}
 use Rattle.branch_store.specs.declared.branch.Branch.{Branch}
 use Rattle.branch_store.specs.declared.branch.Change.{Change}
-use Rattle.branch_store.specs.Faults.{has_xid, is_own}
-use Rattle.branch_store.specs.Store.{add_change, at_stage}
-use Rattle.branch_store.proofs.Firsts.{changed_there, without_there, none_changed, none_gone, none_there}
+use Rattle.branch_store.specs.Faults.{is_own}
+use Rattle.branch_store.specs.Store.{add_change}
+use Rattle.branch_store.proofs.Firsts.{changed_there, none_changed, none_there}
 use Rattle.branch_store.proofs.branches.add_change.Goals as goal
 
 pub returns-in-None-clause-ok : goal.returns-in-None-clause-ok

@@ -1,10 +1,8 @@
-use Rattle.std.proofs.Common.{◌≡◌, List, ◌∷◌, ◌++◌, [], Option, Some, None, sym, ap, ◌∙◌, subst, set}
+use Rattle.std.proofs.Common.{◌≡◌, List, Some, None, sym, ◌∙◌, subst}
 use Rattle.std.specs.List.{position}
 use Rattle.branch_store.specs.declared.branch.Branch.{Branch}
-use Rattle.branch_store.specs.declared.branch.Change.{Change}
-use Rattle.branch_store.specs.Faults.{has_xid, is_own}
-use Rattle.branch_store.specs.Store.{add_change, at_stage}
-use Rattle.branch_store.proofs.Firsts.{changed_there, without_there, none_changed, none_gone, none_there}
+use Rattle.branch_store.specs.Faults.{is_own}
+use Rattle.branch_store.proofs.Firsts.{without_there, none_gone, none_there}
 use Rattle.branch_store.proofs.branches.remove_own.Goals as goal
 
 pub returns-in-None : goal.returns-in-None

@@ -1,7 +1,6 @@
 use Rattle.std.proofs.Common.{◌≡◌, drop}
-use Rattle.std.specs.List.{list_all, list_any}
-use Rattle.branch_store.specs.Changes.{is_called}
-use Rattle.branch_store.specs.Opening.{are_apart, is_definition}
+use Rattle.std.specs.List.{list_all}
+use Rattle.branch_store.specs.Opening.{is_definition}
 use Rattle.branch_store.proofs.opening.all_are_definitions.Given as goal
 
 abbrev pub invariant-loop-table : goal.invariant-loop-table

@@ -1,4 +1,4 @@
-use Rattle.std.proofs.Common.{◌≡◌, map}
+use Rattle.std.proofs.Common.{◌≡◌}
 use Rattle.branch_store.specs.Opening.{empty_tables}
 use Rattle.branch_store.proofs.books.Books.new.Given as goal
 
