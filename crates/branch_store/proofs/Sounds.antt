@@ -74,7 +74,7 @@ all_mapped : {X Y : Type 0} (P : X → Type 0) (Q : Y → Type 0) (f : X → Y) 
 all_mapped P Q f gives [] all = tt
 all_mapped P Q f gives (x ∷ xs) all = (gives x all.0, all_mapped P Q f gives xs all.1)
 
-both_of : (a b : Bool) → (a && b) ≡ true → (a ≡ true) × (b ≡ true)
+pub both_of : (a b : Bool) → (a && b) ≡ true → (a ≡ true) × (b ≡ true)
 both_of true b is = (refl, is)
 both_of false b is = absurd (false≢true is)
 

@@ -6,7 +6,7 @@ use Rattle.sql_text.specs.declared.link.LinkAnswer.{LinkAnswer}
 use Rattle.sql_text.specs.declared.link.LinkAnswer.TheVariants as answer
 use Rattle.sql_text.specs.declared.link.LinkRequest.{LinkRequest}
 use Rattle.sql_text.specs.declared.link.LinkRequest.TheVariants as request
-use Rattle.plain_tables.specs.Rows.{Row, Rises}
+use Rattle.plain_tables.specs.Rows.{Row, HasKey, Rises}
 use Rattle.branch_store.specs.declared.branch.Branch.{Branch}
 use Rattle.branch_store.specs.declared.branch.Change.{Change}
 use Rattle.branch_store.specs.declared.branch.Change.TheVariants.{Put, Del, Clear}
@@ -45,6 +45,10 @@ pub record IsSound (store : Store) : Type 0 where
 
 abbrev pub StepsKeepRows : Type 0
 StepsKeepRows = (store : Store) (conn : ℕ) (request : LinkRequest) → IsSound store → IsSound (store_step store conn request).0
+
+-- the key column of such a row has a BIGINT
+abbrev pub RowsHaveKeys : Type 0
+RowsHaveKeys = (def : TableDef) (row : Row) → is_definition def ≡ true → IsRow def row → HasKey def row
 
 abbrev pub HangupsKeepRows : Type 0
 HangupsKeepRows = (store : Store) (conn : ℕ) → IsSound store → IsSound (hung_up store conn)

@@ -1,7 +1,7 @@
 //! What holds of the store.
 
 ghost use Rattle.branch_store.specs.Laws.{RefusalsChangeNothing, CommitsKeepPuts, RollbacksLeaveNothing};
-ghost use Rattle.branch_store.specs.Sound.{AnswersHaveForm, HangupsKeepRows, StepsKeepRows};
+ghost use Rattle.branch_store.specs.Sound.{AnswersHaveForm, HangupsKeepRows, RowsHaveKeys, StepsKeepRows};
 
 /// A refused request changes nothing.
 pub fn refusals_change_nothing()
@@ -31,4 +31,9 @@ pub fn hangups_keep_rows()
 /// In such a store a scan is answered by rows of its table, or refused.
 pub fn answers_have_form()
     ensures { AnswersHaveForm }
+{}
+
+/// A row of such a table has a key: so its rows are a plain table's.
+pub fn rows_have_keys()
+    ensures { RowsHaveKeys }
 {}
