@@ -1,0 +1,9 @@
+pub mod Alone
+pub mod Firsts
+pub mod Fitting
+pub mod Keyed
+pub mod Keys
+pub mod Refused
+pub mod Sounds
+pub mod Turns
+pub mod Viewing

@@ -1,0 +1,5 @@
+use Rattle.branch_store.proofs.Refused.{refusals_change_nothing}
+use Rattle.branch_store.proofs.laws.refusals_change_nothing.Goals as goal
+
+pub returns : goal.returns
+returns c = refusals_change_nothing

@@ -1,0 +1,11 @@
+pub mod Answers
+pub mod Changes
+pub mod Deeds
+pub mod Faults
+pub mod Keyed
+pub mod Laws
+pub mod Lists
+pub mod Opening
+pub mod Sound
+pub mod Store
+pub mod Tables

@@ -1,0 +1,178 @@
+//! What a request has to fit: rows, key names and conditions.
+
+ghost use Rattle.std.specs.Prelude.{◌≡◌, ◌&&◌, ◌==◌, ◌⊎◌, IfOk, Some, None, Ok, ◌∷◌, [], length, nat_eq, nat_le};
+ghost use Rattle.std.specs.List.{list_all, zip};
+ghost use Rattle.std.specs.Result.{is_ok};
+ghost use Rattle.std.specs.Str.{chars};
+ghost use Rattle.std.specs.Cmp.Lexicographic.{pointwise};
+ghost use Rattle.sql_values.specs.Checks.{checked_cond};
+ghost use Rattle.sql_values.specs.Conditions.{literal_of};
+ghost use Rattle.sql_values.specs.Storing.{is_within as fits_within, stored};
+ghost use Rattle.stmt_plan.specs.Inserts.{key_name};
+ghost use Rattle.branch_store.specs.Faults.{fits as can_hold, is_row as row_of, key_fault as name_fault, cond_fault as fault_of_cond, fault_of_check, scan_fault as fault_of_scan};
+
+use crate::BranchFault;
+use crate::remote_table::RemoteTable;
+use sql_text::Scan;
+use sql_values::{
+    CheckFault, ColumnDef, Cond, Kind, Literal, Name, Row, Rows, TableDef, Value, check_cond,
+};
+use std::alloc::{AllocError, Global};
+
+/// The most bytes of a text in a column.
+const LONGEST_TEXT: usize = 1024;
+
+fn character_count(text: &str) -> usize
+    ensures { result ≡ length (chars text.now) }
+{
+    text.chars().count()
+}
+
+fn is_within(most: u32, text: &str) -> bool
+    ensures { result ≡ fits_within most text.now }
+{
+    text.len() <= LONGEST_TEXT && character_count(text) <= most as usize
+}
+
+fn fits_number(number: &i64, kind: Kind) -> bool
+    ensures { result ≡ is_ok (stored (Literal.Number number.now) kind) }
+{
+    // It is read, so that its range is known.
+    let _number = *number;
+    match kind {
+        Kind::BigInt => true,
+        Kind::VarChar(_) => false,
+    }
+}
+
+fn fits_text(text: &str, kind: Kind) -> bool
+    ensures { result ≡ is_ok (stored (Literal.Text text.now) kind) }
+{
+    match kind {
+        Kind::BigInt => false,
+        Kind::VarChar(most) => is_within(most, text),
+    }
+}
+
+fn fits(value: &Value, column: &ColumnDef) -> bool
+    ensures { result ≡ can_hold (column.now, value.now) }
+{
+    match value {
+        Value::Number(number) => fits_number(number, column.kind),
+        Value::Text(text) => fits_text(text.as_str(), column.kind),
+    }
+}
+
+fn all_fit(columns: &[ColumnDef], values: &[Value]) -> bool
+    ensures { result ≡ list_all can_hold (zip columns.now values.now) }
+{
+    let mut left = values;
+    for column in columns {
+        let Some((value, others)) = left.split_first() else {
+            return true;
+        };
+        if !fits(value, column) {
+            return false;
+        }
+        left = others;
+    }
+    true
+}
+
+fn is_row(def: &TableDef, row: &Row) -> bool
+    ensures { result ≡ row_of def.now row.now }
+{
+    row.len() == def.columns.len() && all_fit(def.columns.as_slice(), row.as_slice())
+}
+
+/// Whether all these are rows of the table.
+pub(crate) fn are_rows(def: &TableDef, rows: &Rows) -> bool
+    ensures { result ≡ list_all (row_of def.now) rows.now }
+{
+    for row in rows.as_slice() {
+        if !is_row(def, row) {
+            return false;
+        }
+    }
+    true
+}
+
+fn is_key_name(def: &TableDef, name: &Name) -> bool
+    ensures { result ≡ pointwise nat_eq (key_name def.now) name.now }
+{
+    match def.columns.as_slice().get(def.key as usize) {
+        Some(column) => column.name == *name,
+        None => name.as_str().is_empty(),
+    }
+}
+
+/// Why a name isn't that of the key column.
+pub(crate) fn key_fault(
+    alloc: Global,
+    def: &TableDef,
+    name: &Name,
+) -> Result<Option<BranchFault>, AllocError>
+    ensures { IfOk result (λ fault. fault ≡ name_fault def.now (Some name.now)) }
+{
+    if is_key_name(def, name) {
+        Ok(None)
+    } else {
+        Ok(Some(BranchFault::NoColumn(name.copy(alloc)?)))
+    }
+}
+
+fn order_fault(
+    alloc: Global,
+    def: &TableDef,
+    order: &Option<Name>,
+) -> Result<Option<BranchFault>, AllocError>
+    ensures { IfOk result (λ fault. fault ≡ name_fault def.now order.now) }
+{
+    match order {
+        Some(name) => key_fault(alloc, def, name),
+        None => Ok(None),
+    }
+}
+
+fn cond_fault(
+    alloc: Global,
+    table: &RemoteTable,
+    cond: &Option<Cond>,
+) -> Result<Option<BranchFault>, AllocError>
+    ensures { IfOk result (λ fault. fault ≡ fault_of_cond table.now.def cond.now) }
+{
+    match cond {
+        Some(cond) => misfit(alloc, table, cond),
+        None => Ok(None),
+    }
+}
+
+fn misfit(
+    alloc: Global,
+    table: &RemoteTable,
+    cond: &Cond,
+) -> Result<Option<BranchFault>, AllocError>
+    ensures { IfOk result (λ fault. fault ≡ fault_of_check (checked_cond cond.now (table.now.def ∷ []))) }
+{
+    match check_cond(alloc, cond, table.alone()) {
+        Ok(()) => Ok(None),
+        Err(CheckFault::NoColumn(name)) => Ok(Some(BranchFault::NoColumn(name))),
+        Err(CheckFault::Ambiguous(_name)) => Ok(Some(BranchFault::TypeMismatch)),
+        Err(CheckFault::TypeMismatch) => Ok(Some(BranchFault::TypeMismatch)),
+        Err(CheckFault::NoMemory) => Err(AllocError),
+    }
+}
+
+/// Why a scan doesn't fit the table: the name of its order comes first.
+pub(crate) fn scan_fault(
+    alloc: Global,
+    table: &RemoteTable,
+    scan: &Scan,
+) -> Result<Option<BranchFault>, AllocError>
+    ensures { IfOk result (λ fault. fault ≡ fault_of_scan table.now.def scan.now) }
+{
+    match order_fault(alloc, table.def(), &scan.order)? {
+        Some(fault) => Ok(Some(fault)),
+        None => cond_fault(alloc, table, &scan.cond),
+    }
+}
