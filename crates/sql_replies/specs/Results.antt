@@ -1,5 +1,5 @@
 -- A SELECT's rows as a text resultset: MySQL Client/Server Protocol, "Protocol::ColumnDefinition41" and "ProtocolText::ResultsetRow".
-use Rattle.std.specs.Prelude.{ℕ, ◌+◌, ◌*◌, ◌-◌, ◌^◌, ◌==◌, List, [], Option, map, min, codes, slice_get, if◌then◌else◌}
+use Rattle.std.specs.Prelude.{ℕ, ◌*◌, ◌-◌, ◌^◌, ◌==◌, List, [], Option, map, min, codes, slice_get, if◌then◌else◌}
 use Rattle.std.specs.Fmt.{signed_decimal}
 use Rattle.std.specs.Option.{option_map, option_map_or}
 use Rattle.my_messages.specs.declared.reply.Column.{Column}

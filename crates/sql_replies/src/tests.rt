@@ -13,6 +13,7 @@ use txn_phases::{Outcome, Refusal};
 // Nothing below promises anything to a proof: else each assertion's proof would look into its literals.
 
 /// What stands behind a refusal's `ERR`: number, state and text.
+#[derive(Clone, Copy)]
 struct Told {
     number: u16,
     state: &'static str,
