@@ -1,5 +1,5 @@
 //! Refusals, one function each.
-ghost use Rattle.std.specs.Prelude.{◌≡◌, ◌≤◌, length, IfOk, string_bytes, string_len};
+ghost use Rattle.std.specs.Prelude.{◌≡◌, ◌≤◌, length, IfOk};
 ghost use Rattle.my_messages.specs.Reply.{HasBytes};
 ghost use Rattle.sql_replies.specs.Errors.{shown as shown_text, ok_reply, no_memory_reply, null_reply, ambiguous_reply, unknown_column_reply, duplicate_reply, syntax_reply, count_reply, no_table_reply, range_reply, too_long_reply, no_partition_reply, refused_reply, limit_reply, log_full_reply, mismatch_reply};
 

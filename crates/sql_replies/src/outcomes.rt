@@ -1,7 +1,7 @@
 //! Statements that were at work.
 ghost use Rattle.std.specs.Prelude.{◌≡◌, ◌≤◌, length, IfOk};
 ghost use Rattle.my_messages.specs.Reply.{HasBytes};
-ghost use Rattle.sql_replies.specs.Outcomes.{limit_in as limit_meant, server_name as name_meant, refusal_reply, found_reply, outcome_reply as reply_to_outcome, IsShowable, AreFewPicks, are_short_rows};
+ghost use Rattle.sql_replies.specs.Outcomes.{limit_in as limit_meant, server_name as name_meant, refusal_reply, found_reply, outcome_reply as reply_to_outcome, IsShowable};
 
 use crate::errors::{backend_refused, done, duplicate, limit, no_memory, shown};
 use crate::results::shown_rows;

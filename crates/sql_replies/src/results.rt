@@ -1,8 +1,7 @@
 //! Rows, with the definitions of their columns.
-ghost use Rattle.std.specs.Prelude.{◌≡◌, ◌≤◌, ◌<◌, true, length, map, IfOk, slice_get};
+ghost use Rattle.std.specs.Prelude.{◌≡◌, ◌≤◌, ◌<◌, true, length, map, IfOk};
 ghost use Rattle.std.specs.Fmt.{signed_decimal};
 ghost use Rattle.std.specs.List.{list_all, AllByRecursion};
-ghost use Rattle.std.specs.Option.{option_map};
 ghost use Rattle.my_messages.specs.Reply.{HasBytes, DefinitionFits, RowFits, cell_bytes};
 ghost use Rattle.txn_phases.specs.Phases.{is_short};
 ghost use Rattle.sql_replies.specs.Errors.{shown as shown_text};
