@@ -3,13 +3,14 @@ use Rattle.std.specs.Prelude.{◌≡◌, ℕ, ◌<◌, ◌≤◌, ◌==◌, ◌&
 use Rattle.std.specs.List.{list_all, starts_with}
 use Rattle.std.specs.Option.{option_map_or}
 use Rattle.my_messages.specs.declared.reply.Reply.{Reply}
+use Rattle.sql_values.specs.declared.table.Kind.{Kind}
 use Rattle.sql_values.specs.declared.table.TableDef.{TableDef}
 use Rattle.sql_values.specs.declared.value.Value.{Value}
 use Rattle.stmt_plan.specs.declared.planned.Picks.{Picks}
 use Rattle.txn_phases.specs.declared.deed.Outcome.{Outcome}
 use Rattle.txn_phases.specs.declared.deed.Outcome.TheVariants as outcome
 use Rattle.txn_phases.specs.declared.deed.Refusal.{Refusal}
-use Rattle.txn_phases.specs.Phases.{is_short}
+use Rattle.txn_phases.specs.Phases.{is_short, is_shaped}
 use Rattle.sql_replies.specs.Errors.{shown, ok_reply, no_memory_reply, duplicate_reply, refused_reply, limit_reply}
 use Rattle.sql_replies.specs.Results.{rows_reply}
 
@@ -54,3 +55,7 @@ AreFewPicks picks = (0 < length picks.picks) × (length picks.picks ≤ 900)
 abbrev pub IsShowable : Option Picks → Outcome → Type 0
 IsShowable (Some picks) (outcome.Found rows) = AreFewPicks picks × (are_short_rows rows ≡ true)
 IsShowable _ _ = Unit {0}
+
+-- rows with a value of each of these kinds, as servers answer them, have no longer text
+abbrev pub RowsOfATableAreShort : Type 0
+RowsOfATableAreShort = (kinds : List Kind) (rows : List (List Value)) → list_all (is_shaped kinds) rows ≡ true → are_short_rows rows ≡ true

@@ -10,6 +10,7 @@
 
 mod errors;
 mod faults;
+pub mod laws;
 mod outcomes;
 mod results;
 
