@@ -1,0 +1,97 @@
+//! Statements that were at work.
+ghost use Rattle.std.specs.Prelude.{◌≡◌, ◌≤◌, length, IfOk};
+ghost use Rattle.my_messages.specs.Reply.{HasBytes};
+ghost use Rattle.sql_replies.specs.Outcomes.{limit_in as limit_meant, server_name as name_meant, refusal_reply, found_reply, outcome_reply as reply_to_outcome, IsShowable};
+
+use crate::errors::{backend_refused, done, duplicate, limit, no_memory, shown};
+use crate::results::shown_rows;
+use my_messages::Reply;
+use sql_values::{Name, Row, TableDef};
+use std::alloc::{AllocError, Global};
+use stmt_plan::Picks;
+use txn_phases::{Outcome, Refusal};
+
+/// The number of want of memory.
+const OUT_OF_MEMORY: u16 = 1037;
+
+/// The number of a limit that is passed.
+const LIMIT: u16 = 14010;
+
+/// The limit that a backend's message names.
+fn limit_in(message: &str) -> &str
+    ensures name { result.now ≡ limit_meant message.now }
+    ensures short { length result.now ≤ 64 }
+{
+    match message.strip_prefix("Limit: ") {
+        Some(name) => shown(name),
+        None => "",
+    }
+}
+
+/// The name of a server, or nothing where there is none with this number.
+fn server_name(servers: &[Name], server: u32) -> &str
+    ensures { result.now ≡ name_meant servers.now server }
+{
+    match servers.get(server as usize) {
+        Some(name) => name.as_str(),
+        None => "",
+    }
+}
+
+/// A backend's refusal.
+fn refused(
+    alloc: Global,
+    servers: &[Name],
+    is_scan: bool,
+    refusal: &Refusal,
+) -> Result<Reply, AllocError>
+    ensures reply { IfOk result (λ reply. reply ≡ refusal_reply servers.now is_scan refusal.now) }
+    ensures bytes { IfOk result HasBytes }
+{
+    if refusal.number == OUT_OF_MEMORY {
+        return no_memory(alloc);
+    }
+    if is_scan && refusal.number == LIMIT {
+        return limit(alloc, limit_in(refusal.message.as_str()));
+    }
+    backend_refused(alloc, server_name(servers, refusal.server), refusal.number)
+}
+
+fn found(
+    alloc: Global,
+    table: &TableDef,
+    picks: &Option<Picks>,
+    rows: &[Row],
+) -> Result<Reply, AllocError>
+    ensures reply { IfOk result (λ reply. reply ≡ found_reply table.now picks.now rows.now) }
+    ensures bytes { IsShowable picks.now (Outcome.Found rows.now) → IfOk result HasBytes }
+{
+    match picks {
+        Some(picks) => shown_rows(alloc, table, picks, rows),
+        None => Ok(done(0)),
+    }
+}
+
+/// The reply to a statement on this table: for a SELECT with the columns that it asks for, and none for an INSERT.
+///
+/// `servers` are the names of all servers, by number, and `is_scan` says of a refusal whether it was a scan that was refused.
+pub fn outcome_reply(
+    alloc: Global,
+    table: &TableDef,
+    picks: &Option<Picks>,
+    servers: &[Name],
+    is_scan: bool,
+    outcome: &Outcome,
+) -> Result<Reply, AllocError>
+    ensures reply { IfOk result (λ reply. reply ≡ reply_to_outcome table.now picks.now servers.now is_scan outcome.now) }
+    ensures bytes { IsShowable picks.now outcome.now → IfOk result HasBytes }
+{
+    match outcome {
+        Outcome::Found(rows) => found(alloc, table, picks, rows.as_slice()),
+        Outcome::Inserted(count) => Ok(done(*count)),
+        Outcome::Duplicate(key) => duplicate(alloc, *key),
+        Outcome::AnswerLimit => limit(alloc, "answer"),
+        Outcome::WriteSetLimit => limit(alloc, "write set"),
+        Outcome::Refused(refusal) => refused(alloc, servers, is_scan, refusal),
+    }
+}
