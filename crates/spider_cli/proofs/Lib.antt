@@ -1,3 +1,4 @@
+pub mod Carried
 pub mod Clients
 pub mod Ends
 pub mod Keys
