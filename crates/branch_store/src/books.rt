@@ -1,14 +1,12 @@
 //! Tables and branches, and what each request does with them.
 
-ghost use Rattle.std.specs.Prelude.{◌≡◌, ◌&&◌, ◌++◌, ◌∷◌, [], map, take, drop, true, IfOk, OnOk, OnErr, MatchResult, Ok, Err, length};
-ghost use Rattle.std.specs.List.{filter, find, fold, list_all};
+ghost use Rattle.std.specs.Prelude.{◌≡◌, [], IfOk, OnOk, OnErr, MatchResult, Ok, Err};
+ghost use Rattle.std.specs.List.{find};
 ghost use Rattle.std.specs.Option.{option_map};
-ghost use Rattle.plain_tables.specs.Rows.{kept};
-ghost use Rattle.branch_store.specs.Changes.{after, has_key_in, has_key_from, is_called};
+ghost use Rattle.branch_store.specs.Changes.{has_key_in, has_key_from, is_called};
 ghost use Rattle.branch_store.specs.Deeds.{may_do};
-ghost use Rattle.branch_store.specs.Faults.{is_own, scan_fault as fault_of_scan, may_end, may_prepare};
 ghost use Rattle.branch_store.specs.Opening.{empty_tables};
-ghost use Rattle.branch_store.specs.Store.{Store, store_step, started as start_step, moved, committed, rolled_back, hung_up, scanned, put as put_step, deleted, work_on, found, count_seen, changed_table, prepared_changes, recovered, viewed, viewed_rows, table_called, with_change};
+ghost use Rattle.branch_store.specs.Store.{Store, store_step, started as start_step, moved, committed, rolled_back, hung_up, scanned, put as put_step, deleted, work_on, found, changed_table, prepared_changes, viewed, viewed_rows};
 
 use crate::branches::{
     Deed, add_change, deed_fault, living, own, prepared, remove, remove_own, set_stage, start_fault,

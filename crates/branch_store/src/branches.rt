@@ -1,9 +1,8 @@
 //! Branches by their names and by their connections.
 
-ghost use Rattle.std.specs.Prelude.{◌≡◌, ◌&&◌, ◌==◌, ◌||◌, not, ◌++◌, ◌∷◌, [], OnOk, OnErr, IfOk, nat_eq, IsSome};
+ghost use Rattle.std.specs.Prelude.{◌≡◌, ◌&&◌, ◌==◌, ◌||◌, OnOk, OnErr};
 ghost use Rattle.std.specs.List.{find, position};
 ghost use Rattle.std.specs.Option.{option_map};
-ghost use Rattle.std.specs.Cmp.Lexicographic.{pointwise};
 ghost use Rattle.branch_store.specs.Faults.{has_xid, is_own as belongs_to, is_prepared as has_been_prepared, is_active as has_not_ended, is_ended as has_ended, branch_fault, start_fault as fault_of_start};
 ghost use Rattle.branch_store.specs.Lists.{changed_first, without_first};
 ghost use Rattle.branch_store.specs.Store.{add_change as with_added, at_stage};

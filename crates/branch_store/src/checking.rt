@@ -1,12 +1,11 @@
 //! What a request has to fit: rows, key names and conditions.
 
-ghost use Rattle.std.specs.Prelude.{◌≡◌, ◌&&◌, ◌==◌, ◌⊎◌, IfOk, Some, None, Ok, ◌∷◌, [], length, nat_eq, nat_le};
+ghost use Rattle.std.specs.Prelude.{◌≡◌, ◌&&◌, ◌==◌, IfOk, Some, None, Ok, ◌∷◌, [], length, nat_eq};
 ghost use Rattle.std.specs.List.{list_all, zip};
 ghost use Rattle.std.specs.Result.{is_ok};
 ghost use Rattle.std.specs.Str.{chars};
 ghost use Rattle.std.specs.Cmp.Lexicographic.{pointwise};
 ghost use Rattle.sql_values.specs.Checks.{checked_cond};
-ghost use Rattle.sql_values.specs.Conditions.{literal_of};
 ghost use Rattle.sql_values.specs.Storing.{is_within as fits_within, stored};
 ghost use Rattle.stmt_plan.specs.Inserts.{key_name};
 ghost use Rattle.branch_store.specs.Faults.{fits as can_hold, is_row as row_of, key_fault as name_fault, cond_fault as fault_of_cond, fault_of_check, scan_fault as fault_of_scan};

@@ -1,6 +1,6 @@
 //! Which tables a backend can have.
 
-ghost use Rattle.std.specs.Prelude.{◌≡◌, ◌&&◌, not, drop, length, nat_le};
+ghost use Rattle.std.specs.Prelude.{◌≡◌, ◌&&◌};
 ghost use Rattle.std.specs.List.{list_all, list_any};
 ghost use Rattle.stmt_plan.specs.Apart.{has_number_key};
 ghost use Rattle.branch_store.specs.Changes.{is_called};

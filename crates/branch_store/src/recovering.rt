@@ -1,6 +1,6 @@
 //! Which branches are prepared.
 
-ghost use Rattle.std.specs.Prelude.{◌≡◌, [], ◌++◌, map, IfOk, OnOk};
+ghost use Rattle.std.specs.Prelude.{◌≡◌, [], IfOk, OnOk};
 ghost use Rattle.std.specs.List.{fold};
 ghost use Rattle.branch_store.specs.Store.{add_name as with_name, recovered};
 

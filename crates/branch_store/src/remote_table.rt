@@ -5,7 +5,6 @@ ghost use Rattle.std.specs.BTreeMap.{IsOrdered, insert_entry};
 ghost use Rattle.std.specs.List.{filter, list_any};
 ghost use Rattle.std.specs.Option.{unwrap_or};
 ghost use Rattle.std.specs.Ordering.{int_cmp};
-ghost use Rattle.sql_values.specs.Conditions.{cond_holds};
 ghost use Rattle.plain_tables.specs.Inserts.{put as put_row, put_all as put_all_rows};
 ghost use Rattle.plain_tables.specs.Rows.{holds_on, kept, key_of};
 ghost use Rattle.branch_store.specs.Changes.{after, changed, has_key_in, has_key_from, is_called, is_of, without};
