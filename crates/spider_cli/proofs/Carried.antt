@@ -1,5 +1,5 @@
 -- What a form did on the file that the words name is what the call did.
-use Rattle.std.proofs.Common.{◌≡◌, inr, ℕ, List, Option, Some, refl, sym, subst}
+use Rattle.std.proofs.Common.{inr, ℕ, List, Option, Some, refl, sym, subst}
 use Rattle.std.specs.Option.{IsSome}
 use Rattle.spider_cli.specs.declared.outcome.Object.TheVariants as object
 use Rattle.spider_cli.specs.declared.outcome.Outcome.{Outcome}

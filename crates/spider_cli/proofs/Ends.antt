@@ -14,7 +14,7 @@ use Rattle.spider_cli.specs.Run.{transcript}
 use Rattle.spider_cli.specs.Playing.{Plays}
 use Rattle.spider_cli.specs.Wire.{Wires}
 use Rattle.spider_cli.specs.Outcome.{code_of}
-use Rattle.spider_cli.specs.Top.{Form, Check, Play, Wire, form_of, WritesFront, WiresFront, LinksFront, IsIdle, FrontBy, WholeBy, StopsAt, IsRefused, IsStarted, Does, RunsOn, Checked, DoesOn, Did, Runs}
+use Rattle.spider_cli.specs.Top.{Form, Check, Play, Wire, form_of, WritesFront, WiresFront, LinksFront, IsIdle, FrontBy, WholeBy, StopsAt, IsRefused, Does, RunsOn, Checked, DoesOn, Did, Runs}
 
 -- What the cases of an outcome have in common.
 
