@@ -95,8 +95,8 @@ fn letters(asks: &Asks) -> u64 {
 fn code(progress: &Progress) -> u64 {
     match progress {
         Progress::Waits(_) => 1,
-        Progress::Asks(asks) => 20_000_000 + letters(asks),
-        Progress::Decides(asks) => 30_000_000 + letters(asks),
+        Progress::Asks(asks) => 20_000_000 + letters(asks) % 10_000_000,
+        Progress::Decides(asks) => 30_000_000 + letters(asks) % 10_000_000,
         Progress::Over { ending, outcome } => {
             let how = match outcome {
                 Outcome::Found(rows) => 10 + rows.len() as u64 % 10,
