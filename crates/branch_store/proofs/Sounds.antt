@@ -22,7 +22,7 @@ use Rattle.branch_store.specs.declared.branch.Change.TheVariants.{Put, Del, Clea
 use Rattle.branch_store.specs.declared.branch.Stage.{Stage}
 use Rattle.branch_store.specs.declared.branch.Stage.TheVariants.{Active, Ended, Prepared}
 use Rattle.branch_store.specs.declared.fault.BranchFault.{BranchFault}
-use Rattle.branch_store.specs.declared.fault.BranchFault.TheVariants.{NoSuchBranch, WrongState, Duplicate, NoTable, NoColumn, TypeMismatch}
+use Rattle.branch_store.specs.declared.fault.BranchFault.TheVariants.{NoSuchBranch, WrongState, Duplicate, NoTable, NoColumn, TypeMismatch, NotSupported}
 use Rattle.branch_store.specs.Changes.{after, changed, has_key_in, has_key_from, is_called, without}
 use Rattle.branch_store.specs.Answers.{refusal}
 use Rattle.branch_store.specs.Faults.{has_xid, is_own, is_row, start_fault, branch_fault, rows_fault, key_fault, scan_fault, may_end, may_prepare, may_commit, may_roll_back}
@@ -276,6 +276,7 @@ refusals_done Duplicate = refl
 refusals_done (NoTable name) = refl
 refusals_done (NoColumn name) = refl
 refusals_done TypeMismatch = refl
+refusals_done NotSupported = refl
 
 refusals_rows : (table : Option Table) (fault : BranchFault) → rows_form (refusal fault) table ≡ true
 refusals_rows table NoSuchBranch = refl
@@ -284,6 +285,7 @@ refusals_rows table Duplicate = refl
 refusals_rows table (NoTable name) = refl
 refusals_rows table (NoColumn name) = refl
 refusals_rows table TypeMismatch = refl
+refusals_rows table NotSupported = refl
 
 unless_done : (store : Store) (fault : Option BranchFault) (done : Store × LinkAnswer) → done_form done.1 ≡ true → done_form (unless_fault store fault done).1 ≡ true
 unless_done store (Some fault) done form = refusals_done fault

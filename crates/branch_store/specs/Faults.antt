@@ -15,13 +15,15 @@ use Rattle.sql_values.specs.Checks.{checked_cond}
 use Rattle.sql_values.specs.Conditions.{literal_of}
 use Rattle.sql_values.specs.Storing.{stored}
 use Rattle.sql_text.specs.declared.link.Scan.{Scan}
+use Rattle.sql_text.specs.declared.link.ScanItems.{ScanItems}
+use Rattle.sql_text.specs.declared.link.ScanItems.TheVariants as scanned
 use Rattle.stmt_plan.specs.Inserts.{key_name}
 use Rattle.plain_tables.specs.Rows.{Row}
 use Rattle.branch_store.specs.declared.branch.Branch.{Branch}
 use Rattle.branch_store.specs.declared.branch.Stage.{Stage}
 use Rattle.branch_store.specs.declared.branch.Stage.TheVariants.{Active, Ended, Prepared}
 use Rattle.branch_store.specs.declared.fault.BranchFault.{BranchFault}
-use Rattle.branch_store.specs.declared.fault.BranchFault.TheVariants.{NoSuchBranch, WrongState, Duplicate, NoColumn, TypeMismatch}
+use Rattle.branch_store.specs.declared.fault.BranchFault.TheVariants.{NoSuchBranch, WrongState, Duplicate, NoColumn, TypeMismatch, NotSupported}
 
 -- BRANCHES
 
@@ -103,6 +105,11 @@ abbrev pub cond_fault : TableDef → Option Cond → Option BranchFault
 cond_fault def None = None
 cond_fault def (Some cond) = fault_of_check (checked_cond cond (def ∷ []))
 
--- the key column's name comes first
+-- aggregates aren't answered yet
+abbrev pub items_fault : ScanItems → Option BranchFault
+items_fault scanned.All = None
+items_fault (scanned.Aggregates calls) = Some NotSupported
+
+-- what is asked for comes first, then the key column's name
 abbrev pub scan_fault : TableDef → Scan → Option BranchFault
-scan_fault def scan = option_or (key_fault def scan.order) (cond_fault def scan.cond)
+scan_fault def scan = option_or (items_fault scan.items) (option_or (key_fault def scan.order) (cond_fault def scan.cond))

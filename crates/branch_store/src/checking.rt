@@ -8,11 +8,11 @@ ghost use Rattle.std.specs.Cmp.Lexicographic.{pointwise};
 ghost use Rattle.sql_values.specs.Checks.{checked_cond};
 ghost use Rattle.sql_values.specs.Storing.{is_within as fits_within, stored};
 ghost use Rattle.stmt_plan.specs.Inserts.{key_name};
-ghost use Rattle.branch_store.specs.Faults.{fits as can_hold, is_row as row_of, key_fault as name_fault, cond_fault as fault_of_cond, fault_of_check, scan_fault as fault_of_scan};
+ghost use Rattle.branch_store.specs.Faults.{fits as can_hold, is_row as row_of, key_fault as name_fault, cond_fault as fault_of_cond, items_fault as fault_of_items, fault_of_check, scan_fault as fault_of_scan};
 
 use crate::BranchFault;
 use crate::remote_table::RemoteTable;
-use sql_text::Scan;
+use sql_text::{Scan, ScanItems};
 use sql_values::{
     CheckFault, ColumnDef, Cond, Kind, Literal, Name, Row, Rows, TableDef, Value, check_cond,
 };
@@ -162,7 +162,16 @@ fn misfit(
     }
 }
 
-/// Why a scan doesn't fit the table: the name of its order comes first.
+fn items_fault(items: &ScanItems) -> Option<BranchFault>
+    ensures { result ≡ fault_of_items items.now }
+{
+    match items {
+        ScanItems::All => None,
+        ScanItems::Aggregates(_) => Some(BranchFault::NotSupported),
+    }
+}
+
+/// Why a scan isn't answered: aggregates come first, then the name of its order.
 pub(crate) fn scan_fault(
     alloc: Global,
     table: &RemoteTable,
@@ -170,6 +179,9 @@ pub(crate) fn scan_fault(
 ) -> Result<Option<BranchFault>, AllocError>
     ensures { IfOk result (λ fault. fault ≡ fault_of_scan table.now.def scan.now) }
 {
+    if let Some(fault) = items_fault(&scan.items) {
+        return Ok(Some(fault));
+    }
     match order_fault(alloc, table.def(), &scan.order)? {
         Some(fault) => Ok(Some(fault)),
         None => cond_fault(alloc, table, &scan.cond),

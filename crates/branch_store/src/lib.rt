@@ -5,8 +5,8 @@
 //! roll it back (X/Open XA). A branch's changes are kept beside the tables until then: a scan sees the committed rows after its own branch's changes, in the
 //! order in which they were asked for (`specs/Changes`), and a commit leaves these rows to all.
 //!
-//! There are no locks and no log yet: branches may change the same rows, and what is committed later is on top. A scan's items aren't looked at yet: aggregates
-//! are answered by the rows themselves.
+//! There are no locks and no log yet: branches may change the same rows, and what is committed later is on top. Aggregates aren't answered
+//! yet: a scan that asks for them is refused (1235).
 #![tactic(auto)]
 
 mod books;

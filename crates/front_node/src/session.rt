@@ -1,5 +1,5 @@
 // A session between two packets: one command after the other, out of the client's bytes.
-ghost use Rattle.std.specs.Prelude.{◌≡◌, ◌++◌, List, ℕ, Option, IfOk, OnOk, OnErr};
+ghost use Rattle.std.specs.Prelude.{◌≡◌, ◌++◌, List, ℕ, Option, IfOk, OnOk, OnErr, length, nat_le};
 ghost use Rattle.my_messages.specs.Command.{IsCommand};
 ghost use Rattle.my_messages.specs.Reply.{HasBytes};
 ghost use Rattle.my_messages.specs.declared.reply.Reply.{Reply};
@@ -207,7 +207,9 @@ impl Talk {
     }
 
     /// Whether so much waits to be written that it is written now.
-    pub fn is_full(&self) -> bool {
+    pub fn is_full(&self) -> bool
+        ensures { result ≡ nat_le 65536 (length self.now.out) }
+    {
         self.out.len() >= WRITTEN_AT_ONCE
     }
 
