@@ -28,17 +28,17 @@ more_by true q is = let no : ⊥ = cc in absurd no
 more_by false true is = refl
 more_by false false is = let no : ⊥ = cc in absurd no
 
-below : (a b : ℤ) → int_cmp a b ≡ Less → int_lt a b ≡ true
+pub below : (a b : ℤ) → int_cmp a b ≡ Less → int_lt a b ≡ true
 below a b is = less_by (int_lt a b) (int_lt b a) is
 
-beyond : (a b : ℤ) → int_cmp a b ≡ Greater → int_lt b a ≡ true
+pub beyond : (a b : ℤ) → int_cmp a b ≡ Greater → int_lt b a ≡ true
 beyond a b is = more_by (int_lt a b) (int_lt b a) is
 
-up_all : (k x : ℤ) (ys : List ℤ) → int_cmp k x ≡ Less → AllByRecursion (λ y. int_cmp x y ≡ Less) ys → AllByRecursion (λ y. int_cmp k y ≡ Less) ys
+pub up_all : (k x : ℤ) (ys : List ℤ) → int_cmp k x ≡ Less → AllByRecursion (λ y. int_cmp x y ≡ Less) ys → AllByRecursion (λ y. int_cmp k y ≡ Less) ys
 up_all k x [] less all = tt
 up_all k x (y ∷ ys) less all = (int_cmp_total.trans k x y less all.0, up_all k x ys less all.1)
 
-abbrev Keyed : TableDef → List (ℤ × Row) → Type 0
+abbrev pub Keyed : TableDef → List (ℤ × Row) → Type 0
 Keyed def es = AllByRecursion (λ (entry : ℤ × Row). entry.0 ≡ key_of def entry.1) es
 
 module _ (def : TableDef) where

@@ -1,9 +1,12 @@
 pub mod Alone
 pub mod Firsts
 pub mod Fitting
+pub mod Found
 pub mod Keyed
 pub mod Keys
 pub mod Refused
+pub mod Scanning
 pub mod Sounds
 pub mod Turns
+pub mod Undoing
 pub mod Viewing

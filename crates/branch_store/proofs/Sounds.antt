@@ -1,5 +1,5 @@
 -- Each row stays one of its table.
-use Rattle.std.proofs.Common.{◌≡◌, ℕ, nat_eq, Bool, true, false, not, ◌&&◌, ◌||◌, List, [], ◌∷◌, ◌++◌, map, take, zero, suc, Option, Some, None, refl, sym, ◌∙◌, ap, subst, inl, inr, cond, length}
+use Rattle.std.proofs.Common.{◌≡◌, ℕ, nat_eq, Bool, true, false, not, ◌&&◌, ◌||◌, List, [], ◌∷◌, ◌++◌, map, take, zero, suc, Option, Some, None, Result, Ok, Err, refl, sym, ◌∙◌, ap, subst, inl, inr, cond, length}
 use Rattle.std.specs.Prelude.{IfSome}
 use Rattle.std.specs.List.{AllByRecursion, Contains, filter, find, list_all, list_any}
 use Rattle.std.specs.Cmp.Lexicographic.{pointwise, nat_list_eq_equiv}
@@ -28,14 +28,15 @@ use Rattle.branch_store.specs.Answers.{refusal}
 use Rattle.branch_store.specs.Faults.{has_xid, is_own, is_row, start_fault, branch_fault, rows_fault, key_fault, scan_fault, may_end, may_prepare, may_commit, may_roll_back}
 use Rattle.branch_store.specs.Lists.{changed_first, without_first}
 use Rattle.branch_store.specs.Opening.{are_apart, are_tables, is_definition, empty_table, empty_tables}
+use Rattle.branch_store.specs.Scanning.{AreOfTable}
 use Rattle.branch_store.specs.Sound.{IsRow, AreRows, FitsTable, FitsTables, definition, IsSound, StepsKeepRows, HangupsKeepRows, AnswersHaveForm, are_rows_of, rows_form, done_form}
-use Rattle.branch_store.specs.Store.{Store, own, living, working, and_table, own_changes, active_changes, table_called, unless_fault, with_branches, with_change, add_change, at_stage, changed_table, changes_of, seen, found, first_rows, new_branch}
+use Rattle.branch_store.specs.Store.{Store, own, living, working, work_on, with_table, and_table, own_changes, active_changes, table_called, unless_fault, with_branches, with_change, add_change, at_stage, changed_table, changes_of, seen, found, first_rows, new_branch}
 use Rattle.branch_store.specs.Tables.{Table}
 
 -- LISTS
 
 module _ {X : Type 0} (P : X → Type 0) where
-  all_filter : (p : X → Bool) (xs : List X) → AllByRecursion P xs → AllByRecursion P (filter p xs)
+  pub all_filter : (p : X → Bool) (xs : List X) → AllByRecursion P xs → AllByRecursion P (filter p xs)
   all_filter p xs all = all_by P (filter p xs) (λ z c. all_of P xs z all (kept_passes p xs z c).0)
 
   all_append : (xs ys : List X) → AllByRecursion P xs → AllByRecursion P ys → AllByRecursion P (xs ++ ys)
@@ -113,7 +114,7 @@ module _ (def : TableDef) where
   change_fits (Del name keys) rows are fit = either_fit rows (without (has_key_in def keys) rows) (is_called name def) (λ called. without_fit (has_key_in def keys) rows are) are
   change_fits (Clear name low high) rows are fit = either_fit rows (without (has_key_from def low high) rows) (is_called name def) (λ called. without_fit (has_key_from def low high) rows are) are
 
-  after_fits : (changes : List Change) (rows : List Row) → AreRows def rows → AllByRecursion (λ change. FitsTable change def) changes → AreRows def (after def changes rows)
+  pub after_fits : (changes : List Change) (rows : List Row) → AreRows def rows → AllByRecursion (λ change. FitsTable change def) changes → AreRows def (after def changes rows)
   after_fits [] rows are all = are
   after_fits (change ∷ changes) rows are all = after_fits changes (changed def rows change) (change_fits change rows are all.0) all.1
 
@@ -338,6 +339,46 @@ answers_have_form store conn (request.Del name key keys) sound =
 answers_have_form store conn (request.Clear name key low high) sound =
     work_by store name (table_called store name) (own store conn) _ (λ done. done_form done.1 ≡ true) (FitBranch (map definition store.tables)) (own_fits store conn sound) refusals_done
     (λ b t fit there. unless_done store (key_fault t.def (Some key)) _ refl)
+
+-- WORK IN A TABLE
+
+abbrev changes_in : Result (List Change × Table) BranchFault → List Change
+changes_in (Ok work) = work.0
+changes_in (Err fault) = []
+
+abbrev table_in : Result (List Change × Table) BranchFault → Option Table
+table_in (Ok work) = Some work.1
+table_in (Err fault) = None
+
+with_them : (name : List ℕ) (o : Option Table) (made changes : List Change) (table : Table) → with_table name o made ≡ Ok (changes, table) → (made ≡ changes) × (o ≡ Some table)
+with_them name None made changes table is = let no : ⊥ = cc in absurd no
+with_them name (Some t) made changes table is = (ap changes_in is, ap table_in is)
+
+active_them : (name : List ℕ) (o : Option Table) (made changes : List Change) (stage : Stage) (table : Table) → and_table name o (active_changes made stage) ≡ Ok (changes, table) → (made ≡ changes) × (o ≡ Some table)
+active_them name o made changes Active table is = with_them name o made changes table is
+active_them name o made changes Ended table is = let no : ⊥ = cc in absurd no
+active_them name o made changes Prepared table is = let no : ⊥ = cc in absurd no
+
+own_them : (name : List ℕ) (o : Option Table) (branch : Option Branch) (P : List Change → Type 0) (changes : List Change) (table : Table) → IfSome branch (λ b. P b.changes) → and_table name o (own_changes branch) ≡ Ok (changes, table) → P changes × (o ≡ Some table)
+own_them name o None P changes table fit is = let no : ⊥ = cc in absurd no
+own_them name o (Some b) P changes table fit is = let each = active_them name o b.changes changes b.stage table is in (subst P each.0 fit, each.1)
+
+-- the table that a branch works on has rows of its own, and the branch's changes put rows of it
+pub works_on_table : (store : Store) (conn : ℕ) (name : List ℕ) (changes : List Change) (table : Table) → IsSound store → work_on store conn name ≡ Ok (changes, table) → AreOfTable changes table
+works_on_table store conn name changes table sound is =
+    let defs : List TableDef = map definition store.tables in
+    let called : Table → Bool = λ t. is_called name t.def in
+    let fit_all : List Change → Type 0 = λ made. AllByRecursion (FitsTables defs) made in
+    let each = own_them name (table_called store name) (own store conn) fit_all changes table (own_fits store conn sound) is in
+    let have : Table → Type 0 = λ t. AreRows t.def t.rows in
+    let take_changes : Table → Type 0 = λ t. AllByRecursion (λ change. FitsTable change t.def) changes in
+    let is_one : Table → Type 0 = λ t. is_definition t.def ≡ true in
+    let all : AllByRecursion take_changes store.tables = all_unmapped (λ def. AllByRecursion (λ change. FitsTable change def) changes) definition store.tables (all_by (λ def. AllByRecursion (λ change. FitsTable change def) changes) defs (λ def at. fit_one defs def at changes each.0)) in
+    record {
+      definition = subst (λ o. IfSome o is_one) each.1 (all_found is_one called store.tables sound.tables);
+      rows = subst (λ o. IfSome o have) each.1 (all_found have called store.tables sound.rows);
+      changes = subst (λ o. IfSome o take_changes) each.1 (all_found take_changes called store.tables all);
+    }
 
 -- TABLES WITHOUT ROWS
 

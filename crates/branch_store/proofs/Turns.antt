@@ -60,7 +60,7 @@ module _ {X : Type 0} where
   shorter p x xs false less = omega arith
 
   -- a filter keeps at most as many as there are
-  kept_few : (p : X → Bool) (xs : List X) → length (filter p xs) ≤ length xs
+  pub kept_few : (p : X → Bool) (xs : List X) → length (filter p xs) ≤ length xs
   kept_few p [] = omega arith
   kept_few p (x ∷ xs) = shorter p x xs (p x) (kept_few p xs)
 

@@ -6,6 +6,8 @@ pub mod Keyed
 pub mod Laws
 pub mod Lists
 pub mod Opening
+pub mod Scanning
 pub mod Sound
 pub mod Store
 pub mod Tables
+pub mod Undoing

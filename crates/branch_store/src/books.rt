@@ -6,6 +6,7 @@ ghost use Rattle.std.specs.Option.{option_map};
 ghost use Rattle.branch_store.specs.Changes.{has_key_in, has_key_from, is_called};
 ghost use Rattle.branch_store.specs.Deeds.{may_do};
 ghost use Rattle.branch_store.specs.Opening.{empty_tables};
+ghost use Rattle.branch_store.specs.Sound.{IsSound};
 ghost use Rattle.branch_store.specs.Store.{Store, store_step, started as start_step, moved, committed, rolled_back, hung_up, scanned, put as put_step, deleted, work_on, found, changed_table, prepared_changes, viewed, viewed_rows};
 
 use crate::branches::{
@@ -14,7 +15,8 @@ use crate::branches::{
 use crate::checking::{are_rows, key_fault, scan_fault};
 use crate::fault::refusal;
 use crate::recovering::recovered_xids;
-use crate::remote_table::{RemoteTable, change_tables};
+use crate::remote_table::RemoteTable;
+use crate::remote_table::writing::commit_changes;
 use crate::{Branch, BranchFault, Change, Changes, Stage};
 use list_types::Listed;
 use sql_text::{LinkAnswer, LinkRequest, Scan};
@@ -73,6 +75,7 @@ impl Books {
         conn: u32,
         request: &LinkRequest,
     ) -> Result<LinkAnswer, AllocError>
+        requires { IsSound self.old }
         ensures step { IfOk result (λ answer. (self.new, answer) ≡ store_step self.old conn request.now) }
         ensures unchanged { OnErr result (self.new ≡ self.old) }
     {
@@ -185,7 +188,7 @@ impl Books {
         let Some(branch) = living(self.branches.as_slice(), xid) else {
             unreachable!()
         };
-        change_tables(&mut self.tables, 0, branch.changes.as_slice())?;
+        commit_changes(alloc, &mut self.tables, branch.changes.as_slice())?;
         remove(&mut self.branches, xid);
         Ok(LinkAnswer::Done(0))
     }
@@ -230,6 +233,7 @@ impl Books {
 
     /// Scans a table as the connection's branch sees it.
     fn scan(&self, alloc: Global, conn: u32, scan: &Scan) -> Result<LinkAnswer, AllocError>
+        requires { IsSound self.now }
         ensures { IfOk result (λ answer. (self.now, answer) ≡ scanned self.now conn scan.now) }
     {
         let work = match self.work(alloc, conn, &scan.table)? {

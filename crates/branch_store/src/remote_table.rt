@@ -11,6 +11,9 @@ ghost use Rattle.branch_store.specs.Changes.{after, changed, has_key_in, has_key
 ghost use Rattle.branch_store.specs.Store.{changed_table, count_seen, first_rows, found as found_by};
 ghost use Rattle.branch_store.specs.Tables.{Table};
 
+mod scanning;
+pub(crate) mod writing;
+
 use crate::Change;
 use list_types::Listed;
 use sql_text::Scan;
@@ -314,9 +317,9 @@ impl RemoteTable {
         }
     }
 
-    /// What a scan finds after these changes.
+    /// What a scan finds after these changes, by a walk over the rows.
     #[tactic(auto, using(crate::proofs::Turns::not_changed))]
-    pub(crate) fn found(
+    fn found_by_walk(
         &self,
         alloc: Global,
         changes: &[Change],
@@ -358,7 +361,7 @@ impl RemoteTable {
 }
 
 /// Makes these changes in the tables from a place on, or in none of them.
-pub(crate) fn change_tables(
+fn change_tables(
     tables: &mut Vec<RemoteTable>,
     place: usize,
     changes: &[Change],

@@ -2,9 +2,10 @@
 
 use crate::*;
 use list_types::{Listed, Text};
-use sql_text::{LinkAnswer, LinkRequest, Scan, ScanItems};
+use sql_text::{AggregateCall, LinkAnswer, LinkRequest, Scan, ScanItems};
 use sql_values::{
-    ColumnDef, Kind, LockMode, Name, Row, Rows, TableDef, TableDefs, Value, Xid, Xids,
+    ColumnDef, ColumnName, Comparison, Cond, Kind, Literal, Literals, LockMode, Name, Operand, Row,
+    Rows, TableDef, TableDefs, Value, Xid, Xids,
 };
 use std::test::*;
 
@@ -18,6 +19,11 @@ enum Ask {
     Rollback(&'static str),
     Recover,
     Scan(u64),
+    Count,
+    // rows whose key is one of these, lies between these, is at least this, at most so many
+    ScanIn(&'static [i64], u64),
+    ScanBetween(i64, i64, u64),
+    ScanFrom(i64, u64),
     Put(i64, i64),
     PutKeyAlone(i64),
     Del(i64, i64),
@@ -95,6 +101,68 @@ fn scan(rt: &HostRuntime, most: u64) -> Result<Scan, Fail> {
     })
 }
 
+fn count(rt: &HostRuntime) -> Result<Scan, Fail> {
+    let mut calls = Listed::new(rt.alloc());
+    calls.push(AggregateCall::Count)?;
+    let table = name(rt, "t")?;
+    Ok(Scan {
+        table,
+        items: ScanItems::Aggregates(calls),
+        cond: None,
+        order: None,
+        limit: None,
+        lock: LockMode::Shared,
+    })
+}
+
+fn key_column(rt: &HostRuntime) -> Result<ColumnName, Fail> {
+    let column = name(rt, "k")?;
+    Ok(ColumnName {
+        table: None,
+        column,
+    })
+}
+
+fn literals(rt: &HostRuntime, keys: &[i64]) -> Result<Literals, Fail> {
+    let mut list = Listed::new(rt.alloc());
+    for key in keys {
+        list.push(Literal::Number(i128::from(*key)))?;
+    }
+    Ok(list)
+}
+
+fn is_in(rt: &HostRuntime, keys: &[i64]) -> Result<Cond, Fail> {
+    let column = key_column(rt)?;
+    Ok(Cond::In {
+        column,
+        negated: false,
+        list: literals(rt, keys)?,
+    })
+}
+
+fn is_between(rt: &HostRuntime, low: i64, high: i64) -> Result<Cond, Fail> {
+    Ok(Cond::Between {
+        column: key_column(rt)?,
+        negated: false,
+        low: Literal::Number(i128::from(low)),
+        high: Literal::Number(i128::from(high)),
+    })
+}
+
+fn is_from(rt: &HostRuntime, low: i64) -> Result<Cond, Fail> {
+    Ok(Cond::Compare {
+        left: Operand::Column(key_column(rt)?),
+        comparison: Comparison::AtLeast,
+        right: Operand::Literal(Literal::Number(i128::from(low))),
+    })
+}
+
+fn scan_by(rt: &HostRuntime, cond: Cond, most: u64) -> Result<LinkRequest, Fail> {
+    let mut scan = scan(rt, most)?;
+    scan.cond = Some(cond);
+    Ok(LinkRequest::Scan(scan))
+}
+
 fn row(rt: &HostRuntime, key: i64, number: Option<i64>) -> Result<Row, Fail> {
     let mut row = Listed::new(rt.alloc());
     row.push(Value::Number(key))?;
@@ -144,6 +212,10 @@ fn request(rt: &HostRuntime, ask: Ask) -> Result<LinkRequest, Fail> {
         Ask::Rollback(text) => Ok(LinkRequest::Rollback(xid(rt, text)?)),
         Ask::Recover => Ok(LinkRequest::Recover),
         Ask::Scan(most) => Ok(LinkRequest::Scan(scan(rt, most)?)),
+        Ask::Count => Ok(LinkRequest::Scan(count(rt)?)),
+        Ask::ScanIn(keys, most) => scan_by(rt, is_in(rt, keys)?, most),
+        Ask::ScanBetween(low, high, most) => scan_by(rt, is_between(rt, low, high)?, most),
+        Ask::ScanFrom(low, most) => scan_by(rt, is_from(rt, low)?, most),
         Ask::Put(key, number) => put(rt, key, Some(number)),
         Ask::PutKeyAlone(key) => put(rt, key, None),
         Ask::Del(first, second) => del(rt, first, second),
@@ -260,6 +332,59 @@ fn a_branch_sees_its_own_changes(rt: HostRuntime) -> Result<(), Fail> {
     Ok(())
 }
 
+// a has committed the rows with these keys
+fn committed(rt: &HostRuntime, keys: &[i64]) -> Result<BranchStore, Fail> {
+    let mut store = opened(rt)?;
+    let mut is_done = step(rt, &mut store, 1, Ask::Start("a"), Told::Done(0))?;
+    for key in keys {
+        is_done = is_done && step(rt, &mut store, 1, Ask::Put(*key, 0), Told::Done(1))?;
+    }
+    let steps = [
+        (1, Ask::End("a"), Told::Done(0)),
+        (1, Ask::Prepare("a"), Told::Done(0)),
+        (1, Ask::Commit("a"), Told::Done(0)),
+        (1, Ask::Start("b"), Told::Done(0)),
+    ];
+    if is_done && play(rt, &mut store, &steps)? {
+        Ok(store)
+    } else {
+        Err(Fail::from("not committed"))
+    }
+}
+
+#[test]
+fn rows_are_found_by_their_keys(rt: HostRuntime) -> Result<(), Fail> {
+    let mut store = committed(&rt, &[9, 1, 5, 3, 7])?;
+    let steps = [
+        (1, Ask::ScanIn(&[5], 9), Told::Keys(&[5])),
+        (1, Ask::ScanIn(&[7, 2, 1], 9), Told::Keys(&[1, 7])),
+        (1, Ask::ScanIn(&[7, 5, 1], 2), Told::Keys(&[1, 5])),
+        (1, Ask::ScanBetween(3, 7, 9), Told::Keys(&[3, 5, 7])),
+        (1, Ask::ScanBetween(7, 3, 9), Told::Keys(&[])),
+        (1, Ask::ScanFrom(5, 9), Told::Keys(&[5, 7, 9])),
+        (1, Ask::ScanFrom(5, 1), Told::Keys(&[5])),
+    ];
+    assert!(rt; play(&rt, &mut store, &steps)?);
+    Ok(())
+}
+
+#[test]
+fn rows_are_found_among_own_changes(rt: HostRuntime) -> Result<(), Fail> {
+    let mut store = committed(&rt, &[1, 3, 5])?;
+    let steps = [
+        (1, Ask::Put(4, 40), Told::Done(1)),
+        (1, Ask::Put(8, 80), Told::Done(1)),
+        (1, Ask::Del(3, 8), Told::Done(2)),
+        (1, Ask::ScanBetween(3, 9, 9), Told::Keys(&[4, 5])),
+        (1, Ask::ScanIn(&[8, 3], 9), Told::Keys(&[])),
+        (1, Ask::ScanFrom(4, 1), Told::Keys(&[4])),
+        (2, Ask::Start("c"), Told::Done(0)),
+        (2, Ask::ScanBetween(3, 9, 9), Told::Keys(&[3, 5])),
+    ];
+    assert!(rt; play(&rt, &mut store, &steps)?);
+    Ok(())
+}
+
 #[test]
 fn what_is_not_in_order_is_refused(rt: HostRuntime) -> Result<(), Fail> {
     let mut store = opened(&rt)?;
@@ -270,6 +395,7 @@ fn what_is_not_in_order_is_refused(rt: HostRuntime) -> Result<(), Fail> {
         (1, Ask::Start("b"), Told::Refused(1399)),
         (2, Ask::End("a"), Told::Refused(1399)),
         (1, Ask::PutKeyAlone(1), Told::Refused(14020)),
+        (1, Ask::Count, Told::Refused(1235)),
         (1, Ask::Commit("a"), Told::Refused(1399)),
     ];
     assert!(rt; play(&rt, &mut store, &steps)?);

@@ -9,7 +9,8 @@ use list_types::{Bytes, Listed};
 use sql_values::Name;
 use std::alloc::{AllocError, Global};
 
-fn status_text(status: Status) -> &'static str
+/// The word for what a link is good for.
+pub fn status_text(status: Status) -> &'static str
     ensures { result.now ≡ status_text status }
 {
     match status {
@@ -19,7 +20,8 @@ fn status_text(status: Status) -> &'static str
     }
 }
 
-fn part_text(part: &Option<Name>) -> &str
+/// A partition's name; the one partition of a table without partitions is shown as a dash.
+pub fn part_text(part: &Option<Name>) -> &str
     ensures { result.now ≡ part_text part.now }
 {
     match part {
@@ -28,7 +30,8 @@ fn part_text(part: &Option<Name>) -> &str
     }
 }
 
-fn server_text(servers: &[HostEntry], server: u32) -> &str
+/// The name of the server of that number.
+pub fn server_text(servers: &[HostEntry], server: u32) -> &str
     ensures { result.now ≡ server_text servers.now server }
 {
     match servers.get(server as usize) {

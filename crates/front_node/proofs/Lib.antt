@@ -1,3 +1,4 @@
 pub mod RepliesIn
+pub mod Sends
 pub mod Sessions
 pub mod Turning

@@ -3,9 +3,9 @@ use Rattle.std.specs.Prelude.{IfSome}
 use Rattle.std.specs.Option.{option_or}
 use Rattle.my_messages.specs.Reply.{HasBytes}
 use Rattle.my_messages.specs.declared.reply.Reply.{Reply}
-use Rattle.fixed_core.specs.declared.event.Output.{Output}
-use Rattle.fixed_core.specs.declared.event.Output.TheVariants.{Send, Await, Decided, Acked, Answer}
-use Rattle.fixed_core.specs.Outputs.{AnswersHaveBytes}
+use Rattle.front_core.specs.declared.event.Output.{Output}
+use Rattle.front_core.specs.declared.event.Output.TheVariants.{Send, Await, Decided, Acked, Answer}
+use Rattle.front_core.specs.Outputs.{AnswersHaveBytes}
 use Rattle.front_node.specs.Asking.{reply_in}
 
 pub or_assoc : {A : Type 0} (a b c : Option A) → option_or (option_or a b) c ≡ option_or a (option_or b c)

@@ -11,8 +11,8 @@ use Rattle.my_messages.specs.Reply.{Each}
 use Rattle.my_messages.specs.declared.command.Command.TheVariants.{Quit}
 use Rattle.my_messages.specs.declared.session_end.SessionEnd.{SessionEnd}
 use Rattle.my_messages.specs.declared.session_end.SessionEnd.TheVariants as ends
-use Rattle.fixed_text.specs.declared.link.LinkRequest.{LinkRequest}
-use Rattle.fixed_text.specs.declared.link.LinkAnswer.{LinkAnswer}
+use Rattle.sql_text.specs.declared.link.LinkRequest.{LinkRequest}
+use Rattle.sql_text.specs.declared.link.LinkAnswer.{LinkAnswer}
 use Rattle.front_node.specs.Asking.{Node}
 use Rattle.front_node.specs.Session.{Exchange, exchange_bytes, status_by, status_after, session_bytes, commands_bytes, IsAbout, Sent, refusal_bytes, sent_to, Exchanged, Served, EndsBy, IsOver, Session}
 use Rattle.front_node.specs.Serving.{Seat, HasServed, Went, Serving, at_command}

@@ -2,15 +2,20 @@ use Rattle.std.proofs.Common.{◌≡◌, ℕ, zero, suc, ◌+◌, ◌-◌, ◌<�
 use Rattle.std.specs.Prelude.{◌||◌}
 use Rattle.std.specs.Option.{option_or}
 use Rattle.my_messages.specs.declared.reply.Reply.{Reply}
-use Rattle.fixed_text.specs.declared.link.LinkRequest.{LinkRequest}
-use Rattle.fixed_text.specs.declared.link.LinkAnswer.{LinkAnswer}
-use Rattle.fixed_core.specs.declared.event.Output.{Output}
-use Rattle.fixed_core.specs.declared.event.Event.TheVariants.{Statement as Asked}
-use Rattle.fixed_core.specs.declared.event.Outputs.{Outputs}
-use Rattle.fixed_core.specs.Core.{Front, IsStep, work_of, rests, answers_awaited}
-use Rattle.fixed_core.specs.Outputs.{sends, outputs_of}
+use Rattle.sql_text.specs.declared.link.LinkRequest.{LinkRequest}
+use Rattle.sql_text.specs.declared.link.LinkAnswer.{LinkAnswer}
+use Rattle.front_core.specs.declared.event.Output.{Output}
+use Rattle.front_core.specs.declared.event.Event.TheVariants.{Statement as Asked}
+use Rattle.front_core.specs.declared.event.Outputs.{Outputs}
+use Rattle.front_core.specs.Core.{Front, IsStep, work_of, rests, most_turns}
+use Rattle.front_core.specs.Outputs.{sends, outputs_of}
 use Rattle.front_node.specs.Asking.{Busy, Node, Turn, GoesOn, Turns, Runs, node_of, is_over, is_none_left, reply_in}
 use Rattle.front_node.proofs.RepliesIn.{reply_in-append, or_assoc, or_none}
+
+-- the code's number of turns
+pub max_is_most : 18446744073709551615 ≡ most_turns
+unfolding most_turns
+max_is_most = refl
 
 module _ {B : Type 0} (asks : B → ℕ → LinkRequest → LinkAnswer → B → Type 0) (n : ℕ) where
   -- nothing is done where all is over
@@ -65,13 +70,13 @@ module _ {B : Type 0} (asks : B → ℕ → LinkRequest → LinkAnswer → B →
 
   -- a statement's step, and the turns after it
   pub runs_from : (old : Node B) (text : List ℕ) (given : Outputs) (begun : Front) (most : ℕ) (requests : List (ℕ × LinkRequest)) (end : Busy B) (reply told : Option Reply)
-      → IsStep old.front (Asked n text) given begun → most ≡ answers_awaited (work_of begun n) → requests ≡ sends (outputs_of given) → reply ≡ reply_in (outputs_of given)
+      → IsStep old.front (Asked n text) given begun → most ≡ most_turns → requests ≡ sends (outputs_of given) → reply ≡ reply_in (outputs_of given)
       → (more : List Output) × (told ≡ reply_in more) × Turns asks n most (record { front = begun; requests = requests; backs = old.backs }) more end
       → (outputs : List Output) × (option_or told reply ≡ reply_in outputs) × Runs asks n old text outputs (node_of end)
   runs_from old text given begun most requests end reply told step awaited sent e t =
       let more = t.0 in
-      let turns : Turns asks n (answers_awaited (work_of begun n)) (record { front = begun; requests = sends (outputs_of given); backs = old.backs }) more end =
-      subst (λ rs. Turns asks n (answers_awaited (work_of begun n)) (record { front = begun; requests = rs; backs = old.backs }) more end) sent
+      let turns : Turns asks n most_turns (record { front = begun; requests = sends (outputs_of given); backs = old.backs }) more end =
+      subst (λ rs. Turns asks n most_turns (record { front = begun; requests = rs; backs = old.backs }) more end) sent
       (subst (λ k. Turns asks n k (record { front = begun; requests = requests; backs = old.backs }) more end) awaited t.2) in (
         outputs_of given ++ more,
         ap (λ o. option_or o reply) t.1 ∙ ap (λ o. option_or (reply_in more) o) e ∙ sym (reply_in-append (outputs_of given) more),

@@ -1,21 +1,36 @@
 -- A statement is run: the front asks servers, and gets their answers.
 use Rattle.std.specs.Prelude.{◌≡◌, ℕ, zero, suc, ◌++◌, ◌||◌, Bool, true, false, List, [], ◌∷◌, Option, Some, None}
 use Rattle.std.specs.Option.{option_or}
-use Rattle.fixed_text.specs.declared.link.LinkRequest.{LinkRequest}
-use Rattle.fixed_text.specs.declared.link.LinkRequest.TheVariants.{Scan, Put}
-use Rattle.fixed_text.specs.declared.link.LinkAnswer.{LinkAnswer}
+use Rattle.sql_text.specs.declared.link.LinkRequest.{LinkRequest}
+use Rattle.sql_text.specs.declared.link.LinkRequest.TheVariants as request
+use Rattle.sql_text.specs.declared.link.LinkAnswer.{LinkAnswer}
+use Rattle.sql_text.specs.declared.link.LinkAnswer.TheVariants as answer
+use Rattle.txn_phases.specs.Phases.{is_done}
 use Rattle.my_messages.specs.declared.reply.Reply.{Reply}
-use Rattle.fixed_core.specs.declared.event.Event.TheVariants.{Statement as Asked, Got}
-use Rattle.fixed_core.specs.declared.event.Output.{Output}
-use Rattle.fixed_core.specs.declared.event.Output.TheVariants.{Send, Await, Decided, Acked, Answer}
-use Rattle.fixed_core.specs.declared.event.Outputs.{Outputs}
-use Rattle.fixed_core.specs.Core.{Front, IsStep, work_of, rests, answers_awaited, is_rows, is_done}
-use Rattle.fixed_core.specs.Outputs.{sends, outputs_of}
+use Rattle.front_core.specs.declared.event.Event.TheVariants.{Statement as Asked, Got}
+use Rattle.front_core.specs.declared.event.Output.{Output}
+use Rattle.front_core.specs.declared.event.Output.TheVariants.{Send, Await, Decided, Acked, Answer}
+use Rattle.front_core.specs.declared.event.Outputs.{Outputs}
+use Rattle.front_core.specs.Core.{Front, IsStep, work_of, rests, most_turns}
+use Rattle.front_core.specs.Outputs.{sends, outputs_of}
+
+-- rows, or a refusal
+abbrev pub is_rows : LinkAnswer → Bool
+is_rows (answer.Rows rows) = true
+is_rows (answer.Refused number message) = true
+is_rows _ = false
+
+-- names of branches, or a refusal
+abbrev pub is_xids : LinkAnswer → Bool
+is_xids (answer.Xids xids) = true
+is_xids (answer.Refused number message) = true
+is_xids _ = false
 
 -- the answer has its request's form
 abbrev pub has_form : LinkRequest → LinkAnswer → Bool
-has_form (Scan key) answer = is_rows answer
-has_form (Put row) answer = is_done answer
+has_form (request.Scan scan) a = is_rows a
+has_form request.Recover a = is_xids a
+has_form _ a = is_done a
 
 -- the answer to the statement among outputs, the last one where there were several
 abbrev pub reply_in : List Output → Option Reply
@@ -81,6 +96,6 @@ module _ {B : Type 0} (asks : B → ℕ → LinkRequest → LinkAnswer → B →
     pub more : List Output
     pub end : Busy B
     pub step : IsStep old.front (Asked n text) given begun
-    pub turns : Turns (answers_awaited (work_of begun n)) (record { front = begun; requests = sends (outputs_of given); backs = old.backs }) more end
+    pub turns : Turns most_turns (record { front = begun; requests = sends (outputs_of given); backs = old.backs }) more end
     pub outputs_are : outputs ≡ outputs_of given ++ more
     pub new_is : new ≡ node_of end

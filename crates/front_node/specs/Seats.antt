@@ -5,7 +5,7 @@ use Rattle.my_messages.specs.declared.session_end.SessionEnd.TheVariants as ends
 use Rattle.front_node.specs.Session.{EndsBy, refusal_bytes}
 use Rattle.front_node.specs.declared.session.Step.{Step}
 use Rattle.front_node.specs.declared.session.Step.TheVariants as steps
-use Rattle.fixed_core.specs.Core.{Front}
+use Rattle.front_core.specs.Core.{Front}
 use Rattle.front_node.specs.Serving.{Seat, at_command}
 use Rattle.front_node.specs.declared.session.Talk.{Talk}
 

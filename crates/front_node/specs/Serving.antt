@@ -7,8 +7,8 @@ use Rattle.my_messages.specs.declared.command.Command.{Command}
 use Rattle.my_messages.specs.declared.command.Command.TheVariants.{Quit}
 use Rattle.my_messages.specs.declared.reply.Reply.{Reply}
 use Rattle.my_messages.specs.declared.session_end.SessionEnd.TheVariants as ends
-use Rattle.fixed_text.specs.declared.link.LinkRequest.{LinkRequest}
-use Rattle.fixed_text.specs.declared.link.LinkAnswer.{LinkAnswer}
+use Rattle.sql_text.specs.declared.link.LinkRequest.{LinkRequest}
+use Rattle.sql_text.specs.declared.link.LinkAnswer.{LinkAnswer}
 use Rattle.front_node.specs.Asking.{Node}
 use Rattle.front_node.specs.Session.{Exchange, exchange_bytes, status_by, session_bytes, status_after, refusal_bytes, EndsBy, Exchanged, Served, Sent}
 use Rattle.front_node.specs.declared.session.Step.{Step}

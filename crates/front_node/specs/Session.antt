@@ -15,13 +15,13 @@ use Rattle.my_messages.specs.declared.reply.Reply.{Reply}
 use Rattle.my_messages.specs.declared.reply.Reply.TheVariants as replies
 use Rattle.my_messages.specs.declared.session_end.SessionEnd.{SessionEnd}
 use Rattle.my_messages.specs.declared.session_end.SessionEnd.TheVariants as ends
-use Rattle.fixed_text.specs.declared.link.LinkRequest.{LinkRequest}
-use Rattle.fixed_text.specs.declared.link.LinkAnswer.{LinkAnswer}
-use Rattle.fixed_core.specs.declared.event.Event.TheVariants.{Open, Closed}
-use Rattle.fixed_core.specs.declared.event.Output.{Output}
-use Rattle.fixed_core.specs.declared.event.Outputs.{Outputs}
-use Rattle.fixed_core.specs.declared.event.Outputs.TheVariants.{Given}
-use Rattle.fixed_core.specs.Core.{Front, IsStep}
+use Rattle.sql_text.specs.declared.link.LinkRequest.{LinkRequest}
+use Rattle.sql_text.specs.declared.link.LinkAnswer.{LinkAnswer}
+use Rattle.front_core.specs.declared.event.Event.TheVariants.{Open, Closed}
+use Rattle.front_core.specs.declared.event.Output.{Output}
+use Rattle.front_core.specs.declared.event.Outputs.{Outputs}
+use Rattle.front_core.specs.declared.event.Outputs.TheVariants.{Given}
+use Rattle.front_core.specs.Core.{Front, IsStep}
 use Rattle.front_node.specs.Asking.{Node, Runs, reply_in}
 
 -- REPLIES

@@ -1,9 +1,9 @@
 ghost use Rattle.std.specs.Prelude.{◌≡◌, true, ℕ, IfOk, OnErr};
-ghost use Rattle.fixed_text.specs.declared.link.LinkRequest.{LinkRequest};
-ghost use Rattle.fixed_text.specs.declared.link.LinkAnswer.{LinkAnswer};
+ghost use Rattle.sql_text.specs.declared.link.LinkRequest.{LinkRequest};
+ghost use Rattle.sql_text.specs.declared.link.LinkAnswer.{LinkAnswer};
 ghost use Rattle.front_node.specs.Asking.{has_form};
 
-use fixed_text::{LinkAnswer, LinkRequest};
+use sql_text::{LinkAnswer, LinkRequest};
 use sql_values::ServerNo;
 use std::alloc::{AllocError, Global};
 
@@ -12,8 +12,8 @@ pub trait Backs {
     /// From the first state to the second that server was asked this request, and answered so.
     ghost asks: { Self → ℕ → LinkRequest → LinkAnswer → Self → Type 0 };
 
-    /// Asks a server. Its answer has the request's form: rows whose texts are no longer than a column may hold to a scan,
-    /// done to a put, or a refusal to either. After want of memory nothing has changed.
+    /// Asks a server. Its answer has the request's form: rows to a scan, names of branches to the question for prepared ones, done to
+    /// any other request, or a refusal to each. After want of memory nothing has changed.
     fn ask(
         &mut self,
         alloc: Global,

@@ -15,4 +15,4 @@ pub use backs::Backs;
 pub use serve::serve_session;
 
 /// What the sessions of a front share.
-pub type Kernel = fixed_core::FrontState;
+pub type Kernel = front_core::FrontState;

@@ -1,7 +1,7 @@
 ghost use Rattle.std.specs.Prelude.{◌≡◌, ◌⊎◌, ◌≤◌, ◌<◌, [], length, None, IfOk, IfErr, OnOk};
 ghost use Rattle.my_wire.specs.Counts.{HasRisen};
 ghost use Rattle.my_wire.specs.Packets.{Wanting, first_packet};
-ghost use Rattle.fixed_core.specs.Core.{work_of};
+ghost use Rattle.front_core.specs.Core.{work_of};
 ghost use Rattle.front_node.specs.Asking.{Node};
 ghost use Rattle.front_node.specs.Serving.{Serving, at_command};
 ghost use Rattle.front_node.specs.Session.{Session, Visit, IsTurnedAway};
@@ -9,7 +9,7 @@ ghost use Rattle.front_node.specs.Seats.{seat_of};
 
 use crate::session::{Step, Talk};
 use crate::{Backs, Kernel};
-use fixed_core::{Event, Outputs};
+use front_core::{Event, Outputs};
 use my_messages::SessionEnd;
 use my_wire::Stream;
 use std::alloc::{AllocError, Global};

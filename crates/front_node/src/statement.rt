@@ -2,17 +2,17 @@
 ghost use Rattle.std.specs.Prelude.{◌≡◌, ◌++◌, ◌∷◌, [], List, Option, IfOk, IfSome, OnOk};
 ghost use Rattle.my_messages.specs.Reply.{HasBytes};
 ghost use Rattle.my_messages.specs.declared.reply.Reply.{Reply};
-ghost use Rattle.fixed_tables.specs.Replies.{no_memory_reply};
-ghost use Rattle.fixed_core.specs.declared.event.Output.{Output};
-ghost use Rattle.fixed_core.specs.Outputs.{sends, outputs_of, AnswersHaveBytes};
-ghost use Rattle.fixed_core.specs.Core.{work_of, answers_awaited};
+ghost use Rattle.sql_replies.specs.Errors.{no_memory_reply};
+ghost use Rattle.front_core.specs.declared.event.Output.{Output};
+ghost use Rattle.front_core.specs.Outputs.{sends, outputs_of, AnswersHaveBytes};
 ghost use Rattle.front_node.specs.Asking.{Busy, Node, Turn, Turns, Runs, reply_in};
 
 use crate::{Backs, Kernel};
-use fixed_core::{Event, Output, Outputs, no_memory};
-use fixed_text::LinkRequest;
+use front_core::{Event, Output, Outputs};
 use list_types::{Bytes, Listed};
 use my_messages::Reply;
+use sql_replies::no_memory;
+use sql_text::LinkRequest;
 use sql_values::ServerNo;
 use std::alloc::{AllocError, Global};
 use std::collections::VecDeque;
@@ -116,7 +116,7 @@ fn turns<B: Backs>(
     session: u32,
     front: &mut Kernel,
     backs: &mut B,
-    most: u32,
+    most: u64,
     requests: &mut Requests,
 ) -> Result<Option<Reply>, AllocError>
     ensures bytes { IfOk result (λ reply. IfSome reply HasBytes) }
@@ -153,7 +153,6 @@ pub fn run<B: Backs>(
     let given = front.step(Event::Statement { session, text });
     let mut requests = VecDeque::new(alloc);
     let reply = pass_all(alloc, given, &mut requests)?;
-    let most = front.answers_awaited(session);
-    let told = turns(alloc, session, front, backs, most, &mut requests)?;
+    let told = turns(alloc, session, front, backs, u64::MAX, &mut requests)?;
     Ok(told.or(reply))
 }

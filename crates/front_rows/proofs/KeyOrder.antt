@@ -79,7 +79,7 @@ few_from column z low (row ∷ rows) (key, at, above, rest) =
       | inr other ↦ rw other (few_from column z key rows rest)
     ]
 
-few_tie : (column : ℕ) (z : List Value) (rows : List (List Value)) → Rises column rows → length (filter (ties (before (by_key column)) z) rows) ≤ 1
+pub few_tie : (column : ℕ) (z : List Value) (rows : List (List Value)) → Rises column rows → length (filter (ties (before (by_key column)) z) rows) ≤ 1
 few_tie column z [] rise = omega arith
 few_tie column z (row ∷ rows) (key, at, rest) =
     elim (cases_Bool (ties (before (by_key column)) z row)) [
@@ -128,7 +128,7 @@ same_one p xs ys (x ∷ a ∷ kept) (y ∷ []) moved is_kept is_few small count 
 same_one p xs ys (x ∷ []) (y ∷ []) moved is_kept is_few small count =
     only_one x y (subst (λ l. Contains l x) is_few (passes_among p ys x (Contains-permutation xs ys x moved (found_in p xs x [] is_kept)) (passes_first p xs x [] is_kept)))
 
-same_few : {X : Type 0} (p : X → Bool) (xs ys : List X) → IsPermutation xs ys → length (filter p ys) ≤ 1 → filter p ys ≡ filter p xs
+pub same_few : {X : Type 0} (p : X → Bool) (xs ys : List X) → IsPermutation xs ys → length (filter p ys) ≤ 1 → filter p ys ≡ filter p xs
 same_few p xs ys moved small =
     same_one p xs ys (filter p xs) (filter p ys) moved refl refl small
     (length-filter p ys ∙ sum_by-IsPermutation (λ x. cond (p x) 1 0) xs ys moved ∙ sym (length-filter p xs))

@@ -15,7 +15,11 @@ use Rattle.front_rows.specs.Laws.{Rises, RisesFrom}
 use Rattle.front_rows.proofs.KeyOrder.{keys_merge}
 use Rattle.plain_tables.specs.Rows.{Row, key_of, HasKey, holds_on, kept}
 use Rattle.plain_tables.specs.Rows.{Rises as RisesByKey}
-use Rattle.plain_tables.specs.Partitions.{lies_in, rows_in, IsMerged}
+use Rattle.sql_values.specs.declared.places.Interval.{Interval}
+use Rattle.sql_values.specs.KeySets.{AreKeys}
+use Rattle.part_rules.specs.KeyRows.{HasOwnKeyName}
+use Rattle.part_rules.specs.Pruned.{IsPruned}
+use Rattle.plain_tables.specs.Partitions.{lies_in, may_keep, rows_in, IsMerged, IsTable}
 use Rattle.plain_tables.specs.Statements.{finished, applied}
 use Rattle.plain_tables.proofs.Members.{all_of, all_by, kept_passes, in_lists}
 use Rattle.plain_tables.proofs.Merged.{partitions_are_merged}
@@ -52,22 +56,34 @@ rises_from def row [] rises keyed = tt
 rises_from def row (next ∷ rows) rises keyed =
     (key_of def next, keyed.0.stands, int_ranked (key_of def row) (key_of def next) Less (sym rises.0.0), rises_from def next rows rises.1 keyed.1)
 
-rises : (def : TableDef) (rows : List Row) → RisesByKey def rows → AllByRecursion (HasKey def) rows → Rises def.key rows
+pub rises : (def : TableDef) (rows : List Row) → RisesByKey def rows → AllByRecursion (HasKey def) rows → Rises def.key rows
 rises def [] up keyed = tt
 rises def (row ∷ rows) up keyed = (key_of def row, keyed.0.stands, rises_from def row rows up keyed.1)
+
+-- what the condition keeps in each partition of its keys is what it keeps of the table, in another order
+pub found_permuted : (def : TableDef) (rule : Rule) (rows : List Row) (cond : Option Cond) (keys : List Interval) (parts : List ℕ) → HasOwnKeyName def → IsTable def rule rows → AreKeys keys (may_keep def cond) → IsPruned rule keys parts
+    → IsPermutation (flat_map (λ p. kept def cond (rows_in def rule p rows)) parts) (kept def cond rows)
+found_permuted def rule rows cond keys parts own table are pruned =
+    let found : List Row = kept def cond rows in
+    let merged : IsMerged def (map (λ p. kept def cond (rows_in def rule p rows)) parts) found = partitions_are_merged def rule rows cond keys parts own table are pruned in
+    let permuted : IsPermutation (flat_map (λ p. filter (lies_in def rule p) found) parts) found =
+    parts_permute (lies_in def rule) parts found pruned.rising (λ q r row c first second. one_place (part rule (key_of def row)) q r first second)
+    (λ row c.
+    let flat = subst (λ l. Contains l row) (flat_map-map (λ (l : List Row). l) (λ p. kept def cond (rows_in def rule p rows)) parts) ((merged.rows row).0 c) in
+    let at = in_lists (λ p. kept def cond (rows_in def rule p rows)) parts row flat in
+    (at.0, at.1, (kept_passes (lies_in def rule at.0) rows row (kept_passes (holds_on def cond) (rows_in def rule at.0 rows) row at.2).0).1)) in
+    subst (λ l. IsPermutation l found) (sym (parts_alike def rule cond rows parts)) permuted
+
+-- each row that is kept has a key
+pub found_keyed : (def : TableDef) (cond : Option Cond) (rows : List Row) → AllByRecursion (HasKey def) rows → AllByRecursion (HasKey def) (kept def cond rows)
+found_keyed def cond rows keyed = all_by (HasKey def) (kept def cond rows) (λ row c. all_of (HasKey def) rows row keyed (kept_passes (holds_on def cond) rows row c).0)
 
 pub merged_scans_are_statements : MergedScansAreStatements
 merged_scans_are_statements number def rule s plan rows sorted is table passes planned in_order =
     let found : List Row = kept def plan.cond rows in
     let merged : IsMerged def (map (λ p. kept def plan.cond (rows_in def rule p rows)) plan.parts) found = partitions_are_merged def rule rows plan.cond plan.keys plan.parts (own_key def is) table planned.keys planned.parts in
-    let gathered : all_rows (map (scanned def rule plan rows) plan.parts) ≡ flat_map (λ p. filter (lies_in def rule p) found) plan.parts =
-    flat_map-map answer_rows (scanned def rule plan rows) plan.parts ∙ parts_alike def rule plan.cond rows plan.parts in
-    let permuted : IsPermutation (flat_map (λ p. filter (lies_in def rule p) found) plan.parts) found =
-    parts_permute (lies_in def rule) plan.parts found planned.parts.rising (λ q r row c first second. one_place (part rule (key_of def row)) q r first second)
-    (λ row c.
-    let flat = subst (λ l. Contains l row) (flat_map-map (λ (l : List Row). l) (λ p. kept def plan.cond (rows_in def rule p rows)) plan.parts) ((merged.rows row).0 c) in
-    let at = in_lists (λ p. kept def plan.cond (rows_in def rule p rows)) plan.parts row flat in
-    (at.0, at.1, (kept_passes (lies_in def rule at.0) rows row (kept_passes (holds_on def plan.cond) (rows_in def rule at.0 rows) row at.2).0).1)) in
-    let keyed : AllByRecursion (HasKey def) found = all_by (HasKey def) found (λ row c. all_of (HasKey def) rows row table.keyed (kept_passes (holds_on def plan.cond) rows row c).0) in
+    let gathered : all_rows (map (scanned def rule plan rows) plan.parts) ≡ flat_map (λ p. kept def plan.cond (rows_in def rule p rows)) plan.parts = flat_map-map answer_rows (scanned def rule plan rows) plan.parts in
+    let permuted = found_permuted def rule rows plan.cond plan.keys plan.parts (own_key def is) table planned.keys planned.parts in
+    let keyed = found_keyed def plan.cond rows table.keyed in
     let same : sorted ≡ found = keys_merge def.key (all_rows (map (scanned def rule plan rows) plan.parts)) sorted found in_order (subst (λ l. IsPermutation l found) (sym gathered) permuted) (rises def found merged.rises keyed) in
     statements_are_scans number def rule s plan rows is table passes planned ∙ ap (λ l. applied def rows (finished def plan.work l)) (sym same)

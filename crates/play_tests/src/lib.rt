@@ -2,9 +2,10 @@
 #![tactic(auto)]
 
 ghost use Rattle.std.specs.Prelude.{◌≡◌, ◌++◌, Some, None, List, ℕ, map, string_bytes};
-ghost use Rattle.my_wire.specs.Memory.{taken};
-ghost use Rattle.spider_cli.specs.Run.{transcript};
-ghost use Rattle.spider_cli.specs.Top.{Play, form_of};
+ghost use Rattle.catalog.specs.Views.{View};
+ghost use Rattle.my_wire.specs.Memory.{taken, Holds};
+ghost use Rattle.world_runs.specs.Run.{transcript};
+ghost use Rattle.spider_cli.specs.Top.{Play, form_of, IsConfigured};
 
 use my_wire::{MemFiles, MemSink, MemSource, Status};
 use spider_cli::spider_local;
@@ -22,8 +23,8 @@ pub fn play_in_memory(
     out: &mut MemSink,
     err: &mut MemSink,
 ) -> Status
-    ensures unbroken { result.code ≡ 0 → (path : List ℕ) → form_of (map string_bytes words.now) ≡ Some (Play path) → (transcript schedule.items).refusal ≡ None }
-    ensures whole { result.code ≡ 0 → (path : List ℕ) → form_of (map string_bytes words.now) ≡ Some (Play path) → taken out.new ≡ taken out.old ++ (transcript schedule.items).text }
+    ensures { result.code ≡ 0 → (path : List ℕ) → form_of (map string_bytes words.now) ≡ Some (Play path) → (catalog : View) × IsConfigured Holds (map string_bytes words.now) files.old (Play path) catalog
+        × ((transcript catalog schedule.items).refusal ≡ None) × (taken out.new ≡ taken out.old ++ (transcript catalog schedule.items).text) }
 {
     let mut input = MemSource::new(schedule, Vec::new(alloc));
     spider_local(alloc, words, files, &mut input, out, err)

@@ -1,8 +1,12 @@
 use list_types::Text;
 use my_wire::{Bytes, MemFile, MemFiles, MemSink, MemSource, ScriptedCall};
-use spider_cli::{FIRST_CONF, spider_local};
+use spider_cli::spider_local;
 use std::alloc::{AllocError, Global};
 use std::test::Fail;
+
+/// A front, a user, a server, and the table t on it.
+const CONF: &[u8] =
+    b"[front]\nname = \"f\"\nlisten = \"127.0.0.1:4406\"\nuser = \"link\"\npassword = \"\"\n[[user]]\nname = \"link\"\npassword = \"\"\n[[server]]\nname = \"s1\"\naddress = \"127.0.0.1:4501\"\n[[table]]\nname = \"t\"\ncolumns = [\"k BIGINT\", \"v VARCHAR(20)\"]\nkey = \"k\"\ncomment = 'srv \"s1\"'\n";
 
 /// What a call over memory gave.
 #[derive(Drop)]
@@ -49,12 +53,12 @@ fn call(
     })
 }
 
-/// A schedule on the configuration that is built, with nothing that fails.
+/// A schedule on the table t, with nothing that fails.
 fn play(alloc: Global, schedule: &[u8]) -> Result<Ran, AllocError> {
     call(
         alloc,
         "play conf",
-        FIRST_CONF,
+        CONF,
         schedule,
         Vec::new(alloc),
         Vec::new(alloc),
@@ -77,37 +81,30 @@ const SYNTAX: &[u8] =
 #[test]
 fn schedules_have_their_transcripts(rt: HostRuntime) -> Result<(), Fail> {
     let alloc = rt.alloc();
-    let table: [(&[u8], &[u8]); 12] = [
+    let table: [(&[u8], &[u8]); 8] = [
         (b"", NOTHING),
         (b"\n# a comment \xc3\xa9\n\n#client 1 x\n", NOTHING),
         (b"client 1 ", SYNTAX),
         (b"client 1 x\n", SYNTAX),
-        // Keywords stand in capitals, and nothing stands behind a statement.
-        (b"client 1 select v FROM t WHERE k = 1\n", SYNTAX),
-        (b"client 1 SELECT v FROM t WHERE k = 1;\n", SYNTAX),
-        // 21 characters, a backslash, and one past each end of BIGINT.
+        // 21 characters.
         (
             b"client 1 INSERT INTO t VALUES (1, 'aaaaaaaaaaaaaaaaaaaaa')\n",
-            SYNTAX,
+            b"answer 1 - err 1406 22001 Data too long for column 'v' at row 1\nend\nlink t - 0 s1 OK 0 rows 0\n",
         ),
-        (b"client 1 INSERT INTO t VALUES (1, 'a\\b')\n", SYNTAX),
-        (
-            b"client 1 SELECT v FROM t WHERE k = 9223372036854775808\n",
-            SYNTAX,
-        ),
-        (
-            b"client 1 SELECT v FROM t WHERE k = -9223372036854775809\n",
-            SYNTAX,
-        ),
-        // Blanks where they may stand, signs, and 20 characters.
+        // Blanks where they may stand, and 20 characters.
         (
             b"client 1 INSERT  INTO t   VALUES(  -9223372036854775808  ,'aaaaaaaaaaaaaaaaaaaa'  )\nclient 1 SELECT v FROM t WHERE k=-9223372036854775808",
             b"decided 1.1\nack 1 1.1\nanswer 1 1.1 ok 1\ndecided 1.2\nack 1 1.2\nanswer 1 1.2 rows 1\nrow 'aaaaaaaaaaaaaaaaaaaa'\nend\nlink t - 0 s1 OK 0 rows 1\nhas -9223372036854775808,'aaaaaaaaaaaaaaaaaaaa'\n",
         ),
-        // A key that is there already, spelled in another way, and keys in rising order at the end.
+        // A key that is there already, and keys in rising order at the end.
         (
-            b"client 1 INSERT INTO t VALUES (+9223372036854775807, '')\nclient 1 INSERT INTO t VALUES (-0, 'z')\nclient 1 INSERT INTO t VALUES (000, 'y')\nclient 1 SELECT v FROM t WHERE k = 7\n",
+            b"client 1 INSERT INTO t VALUES (9223372036854775807, '')\nclient 1 INSERT INTO t VALUES (0, 'z')\nclient 1 INSERT INTO t VALUES (0, 'y')\nclient 1 SELECT v FROM t WHERE k = 7\n",
             b"decided 1.1\nack 1 1.1\nanswer 1 1.1 ok 1\ndecided 1.2\nack 1 1.2\nanswer 1 1.2 ok 1\nanswer 1 1.3 err 1062 23000 Duplicate entry '0' for key 'PRIMARY'\ndecided 1.4\nack 1 1.4\nanswer 1 1.4 rows 0\nend\nlink t - 0 s1 OK 0 rows 2\nhas 0,'z'\nhas 9223372036854775807,''\n",
+        ),
+        // Requests are shown from one line to another, and sessions are told apart.
+        (
+            b"trace on\nclient 256 INSERT INTO t VALUES (1, 'a')\ntrace off\nclient 7 SELECT v FROM t WHERE k = 1\n",
+            b"sent 256 s1 XA START 'f.1.1','s1',1\nsent 256 s1 SELECT * FROM `t` WHERE `k` IN (1) ORDER BY `k` FOR UPDATE\nsent 256 s1 REPLACE INTO `t` VALUES (1,'a')\nsent 256 s1 XA END 'f.1.1','s1',1\nsent 256 s1 XA PREPARE 'f.1.1','s1',1\ndecided 1.1\nsent 256 s1 XA COMMIT 'f.1.1','s1',1\nack 256 1.1\nanswer 256 1.1 ok 1\ndecided 1.2\nack 7 1.2\nanswer 7 1.2 rows 1\nrow 'a'\nend\nlink t - 0 s1 OK 0 rows 1\nhas 1,'a'\n",
         ),
     ];
     for (schedule, transcript) in table {
@@ -122,12 +119,15 @@ fn schedules_have_their_transcripts(rt: HostRuntime) -> Result<(), Fail> {
 #[test]
 fn broken_lines_stop_a_schedule(rt: HostRuntime) -> Result<(), Fail> {
     let alloc = rt.alloc();
-    let table: [(&[u8], &[u8], &[u8]); 6] = [
+    let table: [(&[u8], &[u8], &[u8]); 9] = [
         (b"client 1", b"", b"schedule line 1: unknown word\n"),
-        (b"client 2 x\n", b"", b"schedule line 1: unknown word\n"),
         (b"client  1 x\n", b"", b"schedule line 1: unknown word\n"),
-        (b"\n#\n\xff", b"", b"schedule line 3: unknown word\n"),
-        (b"#\xff\n", b"", b"schedule line 1: unknown word\n"),
+        (b"client 0 x\n", b"", b"schedule line 1: bad number\n"),
+        (b"client 257 x\n", b"", b"schedule line 1: bad number\n"),
+        (b"client 01 x\n", b"", b"schedule line 1: bad number\n"),
+        (b"client +1 x\n", b"", b"schedule line 1: bad number\n"),
+        (b"\n#\n\xff", b"", b"schedule line 3: not text\n"),
+        (b"trace on \n", b"", b"schedule line 1: unknown word\n"),
         (
             b"client 1 x\nstop s1\nclient 1 x\n",
             b"answer 1 - err 1064 42000 Syntax error at byte 0\n",
@@ -153,7 +153,7 @@ fn lines_have_a_limit(rt: HostRuntime) -> Result<(), Fail> {
     assert_eq!(rt; ran.status, 5);
     assert_eq!(rt;
         ran.err.as_slice(),
-        b"schedule line 1: unknown word\n".as_slice()
+        b"schedule line 1: line too long\n".as_slice()
     );
     let mut empty = vec![in alloc; b'\n'; 1_000_000]?;
     assert_eq!(rt; play(alloc, empty.as_slice())?.status, 0);
@@ -162,7 +162,7 @@ fn lines_have_a_limit(rt: HostRuntime) -> Result<(), Fail> {
     assert_eq!(rt; ran.status, 5);
     assert_eq!(rt;
         ran.err.as_slice(),
-        b"schedule line 1000001: unknown word\n".as_slice()
+        b"schedule line 1000001: too many lines\n".as_slice()
     );
     Ok(())
 }
@@ -201,18 +201,18 @@ fn words_and_configurations_have_their_statuses(rt: HostRuntime) -> Result<(), F
         b"usage: spider_local check CONF / play CONF / wire CONF / workload CONF SEED N\n";
     let large = vec![in alloc; b'\n'; 1_048_577]?;
     let table: [(&str, &[u8], u8, &[u8]); 12] = [
-        ("play conf", FIRST_CONF, 0, b""),
-        ("play missing", FIRST_CONF, 1, b"outside fault: conf\n"),
-        ("", FIRST_CONF, 2, usage),
-        ("play", FIRST_CONF, 2, usage),
-        ("play -conf", FIRST_CONF, 2, usage),
-        ("play conf conf", FIRST_CONF, 2, usage),
-        ("check", FIRST_CONF, 2, usage),
-        ("check conf", FIRST_CONF, 0, b""),
+        ("play conf", CONF, 0, b""),
+        ("play missing", CONF, 1, b"outside fault: conf\n"),
+        ("", CONF, 2, usage),
+        ("play", CONF, 2, usage),
+        ("play -conf", CONF, 2, usage),
+        ("play conf conf", CONF, 2, usage),
+        ("check", CONF, 2, usage),
+        ("check conf", CONF, 0, b""),
         ("check conf", LOST_SERVER, 4, b"conf: unknown server s9\n"),
         ("check conf", large.as_slice(), 4, b"conf: too large\n"),
         ("play conf", b"", 4, b"conf: missing key front\n"),
-        ("play conf", OTHER_LINKS, 4, b"conf: not built\n"),
+        ("play conf", OTHER_LINKS, 0, b""),
     ];
     for (words, conf, status, err) in table {
         let ran = call(alloc, words, conf, b"", Vec::new(alloc), Vec::new(alloc))?;
@@ -227,14 +227,7 @@ fn words_and_configurations_have_their_statuses(rt: HostRuntime) -> Result<(), F
 fn one_byte_at_a_time(rt: HostRuntime) -> Result<(), Fail> {
     let alloc = rt.alloc();
     let bytes = vec![in alloc; ScriptedCall::AtMost(1); 300]?;
-    let ran = call(
-        alloc,
-        "play conf",
-        FIRST_CONF,
-        SCHEDULE,
-        bytes.clone()?,
-        bytes,
-    )?;
+    let ran = call(alloc, "play conf", CONF, SCHEDULE, bytes.clone()?, bytes)?;
     assert_eq!(rt; ran.status, 0);
     assert_eq!(rt; ran.out.as_slice(), TRANSCRIPT);
     assert_eq!(rt; ran.err.len(), 0);
@@ -245,14 +238,7 @@ fn one_byte_at_a_time(rt: HostRuntime) -> Result<(), Fail> {
 fn a_reading_fails_in_mid_line(rt: HostRuntime) -> Result<(), Fail> {
     let alloc = rt.alloc();
     let reads = vec![in alloc; ScriptedCall::AtMost(45), ScriptedCall::Fails]?;
-    let ran = call(
-        alloc,
-        "play conf",
-        FIRST_CONF,
-        SCHEDULE,
-        reads,
-        Vec::new(alloc),
-    )?;
+    let ran = call(alloc, "play conf", CONF, SCHEDULE, reads, Vec::new(alloc))?;
     assert_eq!(rt; ran.status, 1);
     assert_eq!(rt; ran.err.as_slice(), b"outside fault: input\n".as_slice());
     assert_eq!(rt;
@@ -268,14 +254,7 @@ fn each_writing_fails(rt: HostRuntime) -> Result<(), Fail> {
     for taken in 0..TRANSCRIPT.len() {
         let mut writes = vec![in alloc; ScriptedCall::AtMost(1); taken]?;
         writes.push(ScriptedCall::Fails)?;
-        let ran = call(
-            alloc,
-            "play conf",
-            FIRST_CONF,
-            SCHEDULE,
-            Vec::new(alloc),
-            writes,
-        )?;
+        let ran = call(alloc, "play conf", CONF, SCHEDULE, Vec::new(alloc), writes)?;
         assert_eq!(rt; ran.status, 1);
         assert_eq!(rt; ran.err.as_slice(), b"outside fault: output\n".as_slice());
         assert_eq!(rt; ran.out.as_slice(), &TRANSCRIPT[..taken]);
@@ -283,20 +262,13 @@ fn each_writing_fails(rt: HostRuntime) -> Result<(), Fail> {
     Ok(())
 }
 
-/// A session of packets on the configuration that is built, read in pieces of at most so many bytes.
+/// A session of packets on the table t, read in pieces of at most so many bytes.
 fn wire(alloc: Global, session: &[u8], piece: usize) -> Result<Ran, AllocError> {
     let mut reads = Vec::new(alloc);
     for _ in 0..session.len() {
         reads.push(ScriptedCall::AtMost(piece))?;
     }
-    call(
-        alloc,
-        "wire conf",
-        FIRST_CONF,
-        session,
-        reads,
-        Vec::new(alloc),
-    )
+    call(alloc, "wire conf", CONF, session, reads, Vec::new(alloc))
 }
 
 /// Whether the session ends with status 0 and these replies, in pieces of that size.
@@ -362,7 +334,7 @@ fn is_fault(
     writes: Vec<ScriptedCall>,
     text: &[u8],
 ) -> Result<bool, AllocError> {
-    let ran = call(alloc, "wire conf", FIRST_CONF, PING, reads, writes)?;
+    let ran = call(alloc, "wire conf", CONF, PING, reads, writes)?;
     Ok(ran.status == 1 && ran.err.as_slice() == text)
 }
 

@@ -1,11 +1,8 @@
 pub mod Carried
-pub mod Clients
 pub mod Ends
-pub mod Keys
 pub mod LineWords
 pub mod Outputs
-pub mod Runs
-pub mod Shorts
+pub mod Sessions
+pub mod Steps
 pub mod Streaming
 pub mod Telling
-pub mod Wires

@@ -1,55 +1,50 @@
 use Rattle.std.proofs.Common.{◌≡◌, Option, subst, ℕ, ◌+◌, ◌<◌, ◌≤◌, ◌++◌, List, [], ◌∷◌, Some, None, Bool, true, false, cond, length, Result, Ok, Err, OnOk, refl, sym, ap, ◌∙◌, append_assoc, arith}
-use Rattle.std.specs.Prelude.{◌==◌, ◌||◌, nat_lt}
+use Rattle.std.specs.Prelude.{◌==◌, is_ok, if◌then◌else◌}
 use Rattle.std.proofs.lemmas.List.{append-nil, length-append}
-use Rattle.std.proofs.lemmas.Bool.{false≢true}
 use Rattle.std.specs.Result.{IsErrAnd}
+use Rattle.catalog.specs.Views.{View}
 use Rattle.spider_cli.proofs.LineWords.{NotBroken, line_is_early}
 use Rattle.spider_cli.specs.Playing.{NoEnd, run_from, told_by}
-use Rattle.spider_cli.specs.Shown.{shown}
+use Rattle.spider_cli.specs.Shown.{scene_of}
 use Rattle.spider_cli.specs.declared.world_play.Player.{Player}
 use Rattle.std.proofs.lemmas.Bool.Decides.{nat_tests}
-use Rattle.spider_cli.specs.declared.schedule.LineRule.{LineRule}
-use Rattle.spider_cli.specs.declared.schedule.LineRule.TheVariants.{UnknownWord}
-use Rattle.fixed_core.specs.declared.event.Output.{Output}
-use Rattle.spider_cli.specs.World.{World, new_world}
-use Rattle.spider_cli.specs.Transcript.{outputs_text, end_text}
-use Rattle.spider_cli.specs.Spoken.{spoken}
-use Rattle.spider_cli.specs.Schedule.{Line, Passed, Client, Broken, line_of, onto_first, onto_line, first_line, lines_of}
-use Rattle.spider_cli.specs.Run.{Run, after_line, line_does, line_step, spoken_onto, by_step, played_text, run_of, Told, told, end_of, with_front, transcript}
+use Rattle.world_runs.specs.declared.schedule.LineRule.{LineRule}
+use Rattle.world_runs.specs.Schedule.{Line, Passed, Trace, Client, Broken, line_of, onto_first, onto_line, first_line, lines_of}
+use Rattle.world_runs.specs.Run.{Scene, new_scene, Given, Run, after_line, line_does, line_step, spoken, spoken_onto, given_text, by_step, played_text, run_of, Told, told, end_of, with_front, transcript}
 
 -- WHAT ONE LINE TELLS
 
-pub front_of_line : (text line : List ℕ) (outputs : List Output) (r : Run)
-    → with_front (text ++ outputs_text outputs) (told r) ≡ with_front text (told (after_line (record { line = line; outputs = outputs }) r))
-front_of_line text line outputs r =
+pub front_of_line : (text line : List ℕ) (given : Given) (r : Run)
+    → with_front (text ++ given_text given) (told r) ≡ with_front text (told (after_line (record { line = line; given = given }) r))
+front_of_line text line given r =
     ap (λ t. record { text = t; refusal = r.refusal })
-    (append_assoc text (outputs_text outputs) (played_text r.played ++ end_of r.refusal r.world)
-    ∙ ap (λ t. text ++ t) (sym (append_assoc (outputs_text outputs) (played_text r.played) (end_of r.refusal r.world))))
+    (append_assoc text (given_text given) (played_text r.played ++ end_of r.refusal r.scene.world)
+    ∙ ap (λ t. text ++ t) (sym (append_assoc (given_text given) (played_text r.played) (end_of r.refusal r.scene.world))))
 
--- a line that was played, as the world's step says it
-pub record Stepped (number : ℕ) (w : World) (line text : List ℕ) (v : World) (all : List ℕ) : Type 0 where
-  pub outputs : List Output
-  pub step : line_step number w line ≡ Ok (v, outputs)
-  pub told_all : all ≡ text ++ outputs_text outputs
+-- a line that was played, as the scene's step says it
+pub record Stepped (number : ℕ) (s : Scene) (line text : List ℕ) (v : Scene) (all : List ℕ) : Type 0 where
+  pub given : Given
+  pub step : line_step number s line ≡ Ok (v, given)
+  pub told_all : all ≡ text ++ given_text given
 
-stepped_by : (text : List ℕ) (r : Result (World × List Output) LineRule) (v : World) (all : List ℕ) → spoken_onto text r ≡ Ok (v, all)
-    → (outputs : List Output) × (r ≡ Ok (v, outputs)) × (all ≡ text ++ outputs_text outputs)
+stepped_by : (text : List ℕ) (r : Result (Scene × Given) LineRule) (v : Scene) (all : List ℕ) → spoken_onto text r ≡ Ok (v, all)
+    → (given : Given) × (r ≡ Ok (v, given)) × (all ≡ text ++ given_text given)
 stepped_by text (Err rule) v all h = absurd (cc)
 stepped_by text (Ok s) v all h =
     let e : spoken text s ≡ (v, all) = cc in
-    (s.1, ap (λ w. Ok (w, s.1)) (ap (λ (p : World × List ℕ). p.0) e), sym (ap (λ (p : World × List ℕ). p.1) e))
+    (s.1, ap (λ w. Ok (w, s.1)) (ap (λ (p : Scene × List ℕ). p.0) e), sym (ap (λ (p : Scene × List ℕ). p.1) e))
 
-pub stepped : (number : ℕ) (w v : World) (line text all : List ℕ) → spoken_onto text (line_step number w line) ≡ Ok (v, all) → Stepped number w line text v all
-stepped number w v line text all h = let s = stepped_by text (line_step number w line) v all h in record { outputs = s.0; step = s.1; told_all = s.2 }
+pub stepped : (number : ℕ) (s v : Scene) (line text all : List ℕ) → spoken_onto text (line_step number s line) ≡ Ok (v, all) → Stepped number s line text v all
+stepped number s v line text all h = let t = stepped_by text (line_step number s line) v all h in record { given = t.0; step = t.1; told_all = t.2 }
 
-pub stepped_told : (w v : World) (n : ℕ) (line text all : List ℕ) (lines : List (List ℕ)) → Stepped (n + 1) w line text v all
+pub stepped_told : (w v : Scene) (n : ℕ) (line text all : List ℕ) (lines : List (List ℕ)) → Stepped (n + 1) w line text v all
     → with_front all (told (run_of v (n + 1) lines)) ≡ with_front text (told (run_of w n (line ∷ lines)))
 unfolding run_of
 stepped_told w v n line text all lines s =
-    ap (λ t. with_front t (told (run_of v (n + 1) lines))) s.told_all ∙ front_of_line text line s.outputs (run_of v (n + 1) lines)
+    ap (λ t. with_front t (told (run_of v (n + 1) lines))) s.told_all ∙ front_of_line text line s.given (run_of v (n + 1) lines)
     ∙ ap (λ x. with_front text (told (by_step line x (n + 1) w (λ u. run_of u (n + 1) lines)))) (sym s.step)
 
-pub broken_told : (w : World) (n : ℕ) (line text : List ℕ) (rule : LineRule) (lines : List (List ℕ)) → line_step (n + 1) w line ≡ Err rule
+pub broken_told : (w : Scene) (n : ℕ) (line text : List ℕ) (rule : LineRule) (lines : List (List ℕ)) → line_step (n + 1) w line ≡ Err rule
     → record { text = text; refusal = Some (n + 1, rule) } ≡ with_front text (told (run_of w n (line ∷ lines)))
 unfolding run_of
 broken_told w n line text rule lines h =
@@ -58,28 +53,16 @@ broken_told w n line text rule lines h =
 
 -- LIMITS
 
-not_broken : (l : Line) (w : World) (s : World × List Output) → line_does l w ≡ Ok s → NotBroken l
+not_broken : (l : Line) (w : Scene) (s : Scene × Given) → line_does l w ≡ Ok s → NotBroken l
 not_broken Passed w s h = tt
-not_broken (Client text) w s h = tt
+not_broken (Trace on) w s h = tt
+not_broken (Client n text) w s h = tt
 not_broken (Broken rule) w s h = absurd (cc)
 
 -- a line that was played is one of the first million
-pub few : (n : ℕ) (w : World) (line : List ℕ) (s : World × List Output) → line_step n w line ≡ Ok s → n ≤ 1000000
+pub few : (n : ℕ) (w : Scene) (line : List ℕ) (s : Scene × Given) → line_step n w line ≡ Ok s → n ≤ 1000000
 unfolding line_step
 few n w line s h = line_is_early n line (not_broken (line_of n line) w s h)
-
-long_by : (b c d : Bool) (l : Line) → c ≡ true → cond (b || (c || d)) (Broken UnknownWord) l ≡ Broken UnknownWord
-long_by true c d l h = refl
-long_by false true d l h = refl
-long_by false false d l h = absurd (false≢true h)
-
-line_too_long : (n : ℕ) (line : List ℕ) → 65536 < length line → line_of n line ≡ Broken UnknownWord
-unfolding line_of
-line_too_long n line l = let t : nat_lt 65536 (length line) ≡ true = grind (arith, nat_tests) in long_by (nat_lt 1000000 n) (nat_lt 65536 (length line)) _ _ t
-
-pub too_long : (n : ℕ) (w : World) (line : List ℕ) → 65536 < length line → line_step n w line ≡ Err UnknownWord
-unfolding line_step
-too_long n w line l = ap (λ x. line_does x w) (line_too_long n line l)
 
 pub same_refusal : (text : List ℕ) (n line : ℕ) (r rule : LineRule) (w : Told) → n ≡ line → r ≡ rule → record { text = text; refusal = Some (n, r) } ≡ w → record { text = text; refusal = Some (line, rule) } ≡ w
 same_refusal text n line r rule w e f h = sym (ap (λ m. record { text = text; refusal = Some (m, r) }) e ∙ ap (λ s. record { text = text; refusal = Some (line, s) }) f) ∙ h
@@ -96,37 +79,9 @@ unfolding lines_of
 lines_of-last b [] h = rw h.0 refl
 lines_of-last b (c ∷ line) h = rw h.0 (ap (onto_first b) (lines_of-last c line h.1))
 
--- however the bytes go on, these begin the first line
-pub record Begins (line bytes : List ℕ) : Type 0 where
-  pub more : List ℕ
-  pub others : List (List ℕ)
-  pub are : lines_of bytes ≡ (line ++ more) ∷ others
-
-begins_by : (b : ℕ) (lines : List (List ℕ)) → (more : List ℕ) × (others : List (List ℕ)) × (onto_first b lines ≡ (b ∷ more) ∷ others)
-begins_by b [] = ([], [], refl)
-begins_by b (line ∷ lines) = (line, lines, refl)
-
-pub begins_line : (b : ℕ) (line rest : List ℕ) → NoEnd (b ∷ line) → Begins (b ∷ line) ((b ∷ line) ++ rest)
-unfolding lines_of
-begins_line b [] rest h = let k = begins_by b (lines_of rest) in record { more = k.0; others = k.1; are = rw h.0 k.2 }
-begins_line b (c ∷ line) rest h = let k = begins_line c line rest h.1 in record { more = k.more; others = k.others; are = rw h.0 (ap (onto_first b) k.are) }
-
 pub NoEnd-append : (xs ys : List ℕ) → NoEnd xs → NoEnd ys → NoEnd (xs ++ ys)
 NoEnd-append [] ys h k = k
 NoEnd-append (x ∷ xs) ys h k = (h.0, NoEnd-append xs ys h.1 k)
-
-begins : (line rest : List ℕ) → NoEnd line → 0 < length line → Begins line (line ++ rest)
-begins [] rest h l = absurd (omega arith)
-begins (b ∷ line) rest h l = begins_line b line rest h
-
--- a line that is longer than allowed, however it goes on
-pub long_told : (w : World) (n : ℕ) (line bytes rest text : List ℕ) → NoEnd (line ++ bytes) → 65536 < length (line ++ bytes)
-    → record { text = text; refusal = Some (n + 1, UnknownWord) } ≡ with_front text (told (run_of w n (lines_of (line ++ (bytes ++ rest)))))
-long_told w n line bytes rest text h l =
-    let k = begins (line ++ bytes) rest h (omega arith) in
-    let longer : 65536 < length ((line ++ bytes) ++ k.more) = (let m = length-append (line ++ bytes) k.more in omega arith) in
-    broken_told w n ((line ++ bytes) ++ k.more) text UnknownWord k.others (too_long (n + 1) w ((line ++ bytes) ++ k.more) longer)
-    ∙ ap (λ ls. with_front text (told (run_of w n ls))) (sym k.are ∙ ap lines_of (append_assoc line bytes rest))
 
 -- THE FIRST LINE OF A PIECE
 
@@ -170,6 +125,15 @@ uncut (b ∷ bytes) h = uncut_first b bytes (b == 10) (first_line bytes) refl (u
 
 -- PLAYERS
 
+-- what is grown where there was memory
+pub if_grown : {T E A : Type 0} (r : Result T E) (new old more : List A) → new ≡ (if is_ok r then old ++ more else old) → OnOk r (new ≡ old ++ more)
+if_grown (Ok x) new old more e = e
+if_grown (Err f) new old more e = tt
+
+pub on_ok : {T E P Q : Type 0} (r : Result T E) → OnOk r P → (P → Q) → OnOk r Q
+on_ok (Ok x) p f = f p
+on_ok (Err e) p f = tt
+
 pub both_ok : {T E P Q R : Type 0} (r : Result T E) → OnOk r P → OnOk r Q → (P → Q → R) → OnOk r R
 both_ok (Ok x) p q f = f p q
 both_ok (Err e) p q f = tt
@@ -190,19 +154,14 @@ unfolding told_by
 ended_refused p text t n h rest =
     h (lines_of rest) ∙ ap (λ ls. with_front text (told (run_from p ls))) (sym (lines_of-ended p.line.items rest n))
 
-pub grown_told : (p q : Player) (text bytes : List ℕ) → q.line.items ≡ p.line.items ++ bytes → shown q.world ≡ shown p.world → q.number ≡ p.number
+pub grown_told : (p q : Player) (text bytes : List ℕ) → q.line.items ≡ p.line.items ++ bytes → scene_of q.stage ≡ scene_of p.stage → q.number ≡ p.number
     → (rest : List ℕ) → with_front text (told_by q rest) ≡ with_front text (told_by p (bytes ++ rest))
 unfolding told_by
 grown_told p q text bytes l w n rest =
-    ap (λ bs. with_front text (told (run_of (shown q.world) q.number (lines_of (bs ++ rest))))) l
-    ∙ ap (λ bs. with_front text (told (run_of (shown q.world) q.number (lines_of bs)))) (append_assoc p.line.items bytes rest)
+    ap (λ bs. with_front text (told (run_of (scene_of q.stage) q.number (lines_of (bs ++ rest))))) l
+    ∙ ap (λ bs. with_front text (told (run_of (scene_of q.stage) q.number (lines_of bs)))) (append_assoc p.line.items bytes rest)
     ∙ ap (λ v. with_front text (told (run_of v q.number (lines_of (p.line.items ++ (bytes ++ rest)))))) w
-    ∙ ap (λ k. with_front text (told (run_of (shown p.world) k (lines_of (p.line.items ++ (bytes ++ rest)))))) n
-
-pub long_refused : (p : Player) (text bytes : List ℕ) → NoEnd p.line.items → NoEnd bytes → 65536 < length (p.line.items ++ bytes)
-    → (rest : List ℕ) → record { text = text; refusal = Some (p.number + 1, UnknownWord) } ≡ with_front text (told_by p (bytes ++ rest))
-unfolding told_by
-long_refused p text bytes n e l rest = long_told (shown p.world) p.number p.line.items bytes rest text (NoEnd-append p.line.items bytes n e) l
+    ∙ ap (λ k. with_front text (told (run_of (scene_of p.stage) k (lines_of (p.line.items ++ (bytes ++ rest)))))) n
 
 -- a line that was cut out is taken, and then what is left
 pub cut_told : (p : Player) (text : List ℕ) (t all : Told) (left line more rest : List ℕ) → Cut left line more
@@ -210,17 +169,19 @@ pub cut_told : (p : Player) (text : List ℕ) (t all : Told) (left line more res
 cut_told p text t all left line more rest c h k =
     h ∙ ap (λ bs. with_front text (told_by p bs)) (sym (append_assoc line (10 ∷ more) rest)) ∙ ap (λ bs. with_front text (told_by p (bs ++ rest))) (sym c.are) ∙ k
 
-pub fresh_told : (p : Player) → shown p.world ≡ new_world → p.number ≡ 0 → p.line.items ≡ [] → (rest : List ℕ) → told_by p rest ≡ transcript rest
+pub fresh_told : (p : Player) (catalog : View) → scene_of p.stage ≡ new_scene catalog → p.number ≡ 0 → p.line.items ≡ [] → (rest : List ℕ) → told_by p rest ≡ transcript catalog rest
 unfolding told_by transcript
-fresh_told p w n l rest =
-    ap (λ v. told (run_of v p.number (lines_of (p.line.items ++ rest)))) w ∙ ap (λ k. told (run_of new_world k (lines_of (p.line.items ++ rest)))) n ∙ ap (λ bs. told (run_of new_world 0 (lines_of (bs ++ rest)))) l
+fresh_told p catalog w n l rest =
+    ap (λ v. told (run_of v p.number (lines_of (p.line.items ++ rest)))) w
+    ∙ ap (λ k. told (run_of (new_scene catalog) k (lines_of (p.line.items ++ rest)))) n
+    ∙ ap (λ bs. told (run_of (new_scene catalog) 0 (lines_of (bs ++ rest)))) l
 
 -- a callee's fault that is passed on
 pub passed_on : {T S F : Type 0} (r : Result T F) (s : Result S F) (e f : F) → IsErrAnd r (λ y. y ≡ e) → s ≡ Err e → r ≡ Err f → s ≡ Err f
 passed_on (Ok x) s e f q h k = absurd q
 passed_on (Err y) s e f q h k = let m : y ≡ f = cc in h ∙ ap Err (sym q ∙ m)
 
-pub nothing_left : (w : World) (n : ℕ) (text all : List ℕ) → all ≡ text ++ end_text w.table → record { text = all; refusal = None } ≡ with_front text (told (run_of w n []))
+pub nothing_left : (w : Scene) (n : ℕ) (text all : List ℕ) → all ≡ text ++ end_of None w.world → record { text = all; refusal = None } ≡ with_front text (told (run_of w n []))
 unfolding run_of
 nothing_left w n text all e = ap (λ t. record { text = t; refusal = None }) e
 

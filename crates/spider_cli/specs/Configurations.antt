@@ -1,13 +1,13 @@
 -- Which configurations are refused, and by which rule.
-use Rattle.std.specs.Prelude.{◌≡◌, ◌≢◌, ◌⊎◌, ℕ, Bool, true, false, List, codes}
+use Rattle.std.specs.Prelude.{◌≡◌, ℕ, Bool, true, false, List}
 use Rattle.conf_file.specs.declared.fault.FileFault.TheVariants as file
 use Rattle.catalog.specs.declared.conf.ConfFault.{ConfFault}
 use Rattle.catalog.specs.declared.conf.ConfFault.TheVariants.{File, Entries, NoMemory}
 use Rattle.catalog.specs.declared.fault.CatalogFault.TheVariants as entries
-use Rattle.catalog.specs.Conf.{IsCatalog, IsConfFault}
-use Rattle.catalog.specs.Views.{View}
+use Rattle.catalog.specs.Conf.{IsConfFault}
 use Rattle.conf_check.specs.Rules.{fault_text}
-use Rattle.spider_cli.specs.declared.conf.TheConstants.{FIRST_CONF}
+use Rattle.spider_cli.specs.declared.outcome.Outcome.{Outcome}
+use Rattle.spider_cli.specs.declared.outcome.Outcome.TheVariants as outcome
 
 -- the fault tells of a rule, and not of memory
 abbrev pub is_rule : ConfFault → Bool
@@ -23,6 +23,11 @@ pub record Breaks (conf rule : List ℕ) : Type 0 where
   pub first : IsConfFault conf fault
   pub text : rule ≡ fault_text fault
 
--- the configuration breaks this rule, or breaks none and isn't the one that is built
-abbrev pub Unrun : List ℕ → List ℕ → Type 0
-Unrun conf rule = (conf ≢ FIRST_CONF.now) × (Breaks conf rule ⊎ ((catalog : View) × IsCatalog conf catalog × (rule ≡ codes "not built")))
+-- how a call ends on a configuration that breaks a rule: it is refused by this one, or memory was wanting
+abbrev pub IsTurnedDown : List ℕ → Outcome → Type 0
+IsTurnedDown conf (outcome.Conf rule) = Breaks conf rule
+IsTurnedDown conf outcome.NoMemory = Unit {0}
+IsTurnedDown conf outcome.Done = ⊥
+IsTurnedDown conf (outcome.Fault what) = ⊥
+IsTurnedDown conf outcome.Usage = ⊥
+IsTurnedDown conf (outcome.Refused line rule) = ⊥

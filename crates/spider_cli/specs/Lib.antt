@@ -1,17 +1,8 @@
-pub mod BranchStore
 pub mod Configurations
 pub mod Forms
-pub mod History
 pub mod Lines
 pub mod Outcome
 pub mod Playing
-pub mod Run
-pub mod Schedule
 pub mod Showing
 pub mod Shown
-pub mod Spoken
 pub mod Top
-pub mod Transcript
-pub mod Wire
-pub mod Wiring
-pub mod World

@@ -1,7 +1,7 @@
 use Rattle.std.specs.Prelude.{ℕ, ◌++◌, List, [], codes}
 use Rattle.std.specs.Fmt.{decimal}
-use Rattle.spider_cli.specs.declared.schedule.LineRule.{LineRule}
-use Rattle.spider_cli.specs.declared.schedule.LineRule.TheVariants.{UnknownWord}
+use Rattle.world_runs.specs.declared.schedule.LineRule.{LineRule}
+use Rattle.world_runs.specs.declared.schedule.LineRule.TheVariants.{NotText, LineTooLong, TooManyLines, UnknownWord, BadNumber}
 use Rattle.spider_cli.specs.declared.outcome.Object.{Object}
 use Rattle.spider_cli.specs.declared.outcome.Object.TheVariants as object
 use Rattle.spider_cli.specs.declared.outcome.Outcome.{Outcome}
@@ -22,7 +22,11 @@ object_text object.Input = codes "input"
 object_text object.Output = codes "output"
 
 abbrev pub rule_text : LineRule → List ℕ
+rule_text NotText = codes "not text"
+rule_text LineTooLong = codes "line too long"
+rule_text TooManyLines = codes "too many lines"
 rule_text UnknownWord = codes "unknown word"
+rule_text BadNumber = codes "bad number"
 
 -- what is said on error output
 abbrev pub text_of : Outcome → List ℕ

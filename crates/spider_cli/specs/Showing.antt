@@ -11,6 +11,5 @@ Shows takes faults fed text left old new (Ok done) = (fed ≡ Ok tt) × takes ol
 Shows takes faults fed text left old new (Err end.NoMemory) = (fed ≡ Err fault.NoMemory) × (new ≡ old)
 Shows takes faults fed text left old new (Err end.WriteFault) = ((fed ≡ Err fault.NoMemory) → ⊥) × TakesFront takes old text new × HasRisen (faults old) (faults new)
 Shows takes faults fed text left old new (Err (end.Refused line rule)) = (fed ≡ Err (fault.Refused line rule)) × takes old text new
-Shows takes faults fed text left old new (Err (end.Conf fault)) = ⊥
 Shows takes faults fed text left old new (Err end.Done) = ⊥
 Shows takes faults fed text left old new (Err end.ReadFault) = ⊥

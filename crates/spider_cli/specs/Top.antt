@@ -1,24 +1,24 @@
 use Rattle.std.specs.Prelude.{◌≡◌, ◌⊎◌, ℕ, ◌==◌, Bool, false, List, [], ◌∷◌, Option, Some, None, IsSome, if◌then◌else◌, codes}
 use Rattle.std.specs.Str.{bytes_eq}
 use Rattle.my_wire.specs.Counts.{HasRisen, TakesFront, IsFront}
-use Rattle.spider_cli.specs.declared.conf.TheConstants.{FIRST_CONF}
 use Rattle.spider_cli.specs.declared.outcome.Object.TheVariants as object
 use Rattle.spider_cli.specs.declared.outcome.Outcome.{Outcome}
 use Rattle.spider_cli.specs.declared.outcome.Outcome.TheVariants as outcome
 use Rattle.spider_cli.specs.declared.world_play.PlayEnd.TheVariants as end
-use Rattle.spider_cli.specs.declared.schedule.LineRule.{LineRule}
+use Rattle.world_runs.specs.declared.schedule.LineRule.{LineRule}
 use Rattle.catalog.specs.Conf.{IsCatalog}
 use Rattle.catalog.specs.Views.{View}
 use Rattle.conf_check.specs.Links.{links_text}
-use Rattle.spider_cli.specs.Configurations.{Breaks, Unrun}
-use Rattle.spider_cli.specs.Run.{transcript}
+use Rattle.spider_cli.specs.Configurations.{Breaks}
+use Rattle.world_runs.specs.Run.{transcript}
 use Rattle.my_wire.specs.Packets.{first_packet}
 use Rattle.my_messages.specs.declared.session_end.SessionEnd.{SessionEnd}
 use Rattle.my_messages.specs.declared.session_end.SessionEnd.TheVariants as ends
 use Rattle.front_node.specs.Session.{Exchange, Sent, sent_to, EndsBy, IsOver}
 use Rattle.spider_cli.specs.declared.world_play.PlayEnd.{PlayEnd}
 use Rattle.spider_cli.specs.Playing.{Plays}
-use Rattle.spider_cli.specs.Wire.{AreSolo, Wires}
+use Rattle.wire_law.specs.Wire.{AreSolo}
+use Rattle.wire_play.specs.Wires.{Wires}
 
 -- THE WORDS
 
@@ -63,10 +63,9 @@ Says takes faults old text new = TakesFront takes old text new × (takes old tex
 
 -- WHAT IS SAID OF A CONFIGURATION
 
-module _ {K : Type 0} (takes : K → List ℕ → K → Type 0) (sink full : K) where
+module _ {K : Type 0} (takes : K → List ℕ → K → Type 0) (catalog : View) (sink full : K) where
   -- what was written is a front of what is said of a catalog's links
   pub record LinksFront : Type 0 where
-    pub catalog : View
     pub written : List ℕ
     pub taken : takes sink written full
     pub front : IsFront written (links_text catalog)
@@ -76,7 +75,7 @@ module _ {K : Type 0} (takes : K → List ℕ → K → Type 0) (write_faults : 
   abbrev pub Checked : List ℕ → Outcome → Type 0
   Checked conf (outcome.Conf rule) = Breaks conf rule × (full ≡ sink)
   Checked conf outcome.Done = (catalog : View) × IsCatalog conf catalog × takes sink (links_text catalog) full
-  Checked conf (outcome.Fault object.Output) = HasRisen (write_faults sink) (write_faults full) × (front : LinksFront takes sink full) × IsCatalog conf front.catalog
+  Checked conf (outcome.Fault object.Output) = HasRisen (write_faults sink) (write_faults full) × (catalog : View) × IsCatalog conf catalog × LinksFront takes catalog sink full
   Checked conf (outcome.Fault object.Input) = ⊥
   Checked conf (outcome.Fault object.Conf) = ⊥
   Checked conf (outcome.Refused line rule) = ⊥
@@ -86,33 +85,33 @@ module _ {K : Type 0} (takes : K → List ℕ → K → Type 0) (write_faults : 
 -- WHAT A CALL OF THE PROGRAM READ AND WROTE
 
 module _ {S K : Type 0} (gives : S → List ℕ → S → Type 0) (has_ended : S → Type 0) (takes : K → List ℕ → K → Type 0) (source rest : S) (sink full : K) where
-  -- what was written is a front of the transcript of what was read
-  pub record WritesFront : Type 0 where
+  -- what was written is a front of the transcript of what was read, on this configuration
+  pub record WritesFront (catalog : View) : Type 0 where
     pub read : List ℕ
     pub written : List ℕ
     pub given : gives source read rest
     pub taken : takes sink written full
-    pub front : IsFront written (transcript read).text
+    pub front : IsFront written (transcript catalog read).text
 
   -- it is the whole transcript of what was read, to the schedule's end, and no line of it breaks a rule
-  pub record WritesWhole : Type 0 where
+  pub record WritesWhole (catalog : View) : Type 0 where
     pub read : List ℕ
     pub written : List ℕ
     pub given : gives source read rest
     pub taken : takes sink written full
-    pub whole : transcript read ≡ record { text = written; refusal = None }
+    pub whole : transcript catalog read ≡ record { text = written; refusal = None }
     pub ended : has_ended rest
 
   -- it is the transcript of the lines before this one, the first that breaks a rule
-  pub record StopsAt (line : ℕ) (rule : LineRule) : Type 0 where
+  pub record StopsAt (catalog : View) (line : ℕ) (rule : LineRule) : Type 0 where
     pub read : List ℕ
     pub written : List ℕ
     pub given : gives source read rest
     pub taken : takes sink written full
-    pub stopped : transcript read ≡ record { text = written; refusal = Some (line, rule) }
+    pub stopped : transcript catalog read ≡ record { text = written; refusal = Some (line, rule) }
 
   -- the same of a session of packets: what was written is a front of what the client is sent for its bytes, in which each statement's answer is a plain session's
-  pub record WiresFront : Type 0 where
+  pub record WiresFront (catalog : View) : Type 0 where
     pub read : List ℕ
     pub written : List ℕ
     pub exchanges : List Exchange
@@ -121,10 +120,10 @@ module _ {S K : Type 0} (gives : S → List ℕ → S → Type 0) (has_ended : S
     pub taken : takes sink written full
     pub sent : Sent read exchanges left
     pub front : IsFront written (sent_to exchanges left)
-    pub solo : AreSolo exchanges
+    pub solo : AreSolo catalog exchanges
 
   -- it is the whole, to the end of the client's bytes, or to the command or the packet that ends the session
-  pub record WiresWhole : Type 0 where
+  pub record WiresWhole (catalog : View) : Type 0 where
     pub read : List ℕ
     pub written : List ℕ
     pub exchanges : List Exchange
@@ -134,7 +133,7 @@ module _ {S K : Type 0} (gives : S → List ℕ → S → Type 0) (has_ended : S
     pub taken : takes sink written full
     pub sent : Sent read exchanges left
     pub whole : written ≡ sent_to exchanges left
-    pub solo : AreSolo exchanges
+    pub solo : AreSolo catalog exchanges
     pub over : IsOver how
     pub ends : EndsBy (has_ended rest) (first_packet 0 left) how
 
@@ -143,35 +142,22 @@ module _ {S K : Type 0} (gives : S → List ℕ → S → Type 0) (has_ended : S
   IsIdle = (rest ≡ source) × (full ≡ sink)
 
   -- by the form of the words
-  abbrev pub FrontBy : Option Form → Type 0
-  FrontBy None = IsIdle
-  FrontBy (Some (Check path)) = (rest ≡ source) × ((full ≡ sink) ⊎ LinksFront takes sink full)
-  FrontBy (Some (Play path)) = WritesFront
-  FrontBy (Some (Wire path)) = WiresFront
+  abbrev pub FrontBy : Form → View → Type 0
+  FrontBy (Check path) catalog = (rest ≡ source) × LinksFront takes catalog sink full
+  FrontBy (Play path) catalog = WritesFront catalog
+  FrontBy (Wire path) catalog = WiresFront catalog
 
-  abbrev pub WholeBy : Option Form → Type 0
-  WholeBy None = ⊥
-  WholeBy (Some (Check path)) = (rest ≡ source) × (catalog : View) × takes sink (links_text catalog) full
-  WholeBy (Some (Play path)) = WritesWhole
-  WholeBy (Some (Wire path)) = WiresWhole
+  abbrev pub WholeBy : Form → View → Type 0
+  WholeBy (Check path) catalog = (rest ≡ source) × takes sink (links_text catalog) full
+  WholeBy (Play path) catalog = WritesWhole catalog
+  WholeBy (Wire path) catalog = WiresWhole catalog
 
 -- THE CONFIGURATION
 
--- a configuration isn't run, or there was no memory to tell why
-abbrev pub IsUnrun : List ℕ → Outcome → Type 0
-IsUnrun conf (outcome.Conf rule) = Unrun conf rule
-IsUnrun conf outcome.NoMemory = Unit {0}
-IsUnrun conf _ = ⊥
-
--- by the form of the words, this is the text of the rule by which a file is refused; one that is too large has no contents
-abbrev pub RefusedBy : Form → List ℕ → List ℕ → Type 0
-RefusedBy (Check path) conf rule = Breaks conf rule
-RefusedBy (Play path) conf rule = Unrun conf rule
-RefusedBy (Wire path) conf rule = Unrun conf rule
-
-abbrev pub RefusedAs : Form → Option (List ℕ) → List ℕ → Type 0
-RefusedAs form None rule = rule ≡ codes "too large"
-RefusedAs form (Some conf) rule = RefusedBy form conf rule
+-- this is the text of the rule by which a file is refused; one that is too large has no contents
+abbrev pub RefusedAs : Option (List ℕ) → List ℕ → Type 0
+RefusedAs None rule = rule ≡ codes "too large"
+RefusedAs (Some conf) rule = Breaks conf rule
 
 module _ {F : Type 0} (holds : F → List ℕ → Option (List ℕ) → Type 0) (words : List (List ℕ)) (files : F) where
   -- the words have this form, and the file that they name has these bytes
@@ -179,53 +165,57 @@ module _ {F : Type 0} (holds : F → List ℕ → Option (List ℕ) → Type 0) 
     pub form_is : form_of words ≡ Some form
     pub held : holds files (path_of form) (Some conf)
 
+  -- the words have this form, and the file that they name is this configuration
+  pub record IsConfigured (form : Form) (catalog : View) : Type 0 where
+    pub conf : List ℕ
+    pub started : IsStarted form conf
+    pub configured : IsCatalog conf catalog
+
   -- the words name a file that is refused by this rule
   pub record IsRefused (rule : List ℕ) : Type 0 where
     pub form : Form
     pub form_is : form_of words ≡ Some form
     pub contents : Option (List ℕ)
     pub held : holds files (path_of form) contents
-    pub refused : RefusedAs form contents rule
+    pub refused : RefusedAs contents rule
 
 -- THE WHOLE CALL
 
 module _ {S K : Type 0} (gives : S → List ℕ → S → Type 0) (has_ended : S → Type 0) (read_faults : S → ℕ) (takes : K → List ℕ → K → Type 0) (write_faults : K → ℕ)
     (source rest : S) (sink full : K) where
-  abbrev pub Played : PlayEnd → Type 0
-  Played how = Plays gives has_ended takes source rest sink full how
+  abbrev pub Played : View → PlayEnd → Type 0
+  Played catalog how = Plays gives has_ended takes catalog source rest sink full how
 
   -- a session of packets ended so, for one of these reasons
-  abbrev pub Wired : SessionEnd → Type 0
-  Wired how = Wires gives has_ended takes source rest sink full how
+  abbrev pub Wired : View → SessionEnd → Type 0
+  Wired catalog how = Wires gives has_ended takes catalog source rest sink full how
 
-  -- what the form asks for of a configuration that is run, by how it ended, with its cause
-  abbrev pub Does : Form → Outcome → Type 0
-  Does (Check path) how = ⊥
-  Does (Play path) outcome.Done = Played end.Done
-  Does (Play path) (outcome.Refused line rule) = Played (end.Refused line rule)
-  Does (Play path) (outcome.Fault object.Input) = HasRisen (read_faults source) (read_faults rest) × Played end.ReadFault
-  Does (Play path) (outcome.Fault object.Output) = HasRisen (write_faults sink) (write_faults full) × Played end.WriteFault
-  Does (Play path) outcome.NoMemory = Played end.NoMemory
-  Does (Play path) (outcome.Fault object.Conf) = ⊥
-  Does (Play path) (outcome.Conf fault) = ⊥
-  Does (Play path) outcome.Usage = ⊥
-  Does (Wire path) outcome.Done = (how : SessionEnd) × IsOver how × Wired how
-  Does (Wire path) (outcome.Fault object.Input) = HasRisen (read_faults source) (read_faults rest) × Wired ends.ClientFault
-  Does (Wire path) (outcome.Fault object.Output) = HasRisen (write_faults sink) (write_faults full) × Wired ends.ClientFault
-  Does (Wire path) outcome.NoMemory = Wired ends.NoMemory
-  Does (Wire path) (outcome.Refused line rule) = ⊥
-  Does (Wire path) (outcome.Fault object.Conf) = ⊥
-  Does (Wire path) (outcome.Conf fault) = ⊥
-  Does (Wire path) outcome.Usage = ⊥
+  -- what the form asks for of a configuration, by how it ended, with its cause
+  abbrev pub Does : View → Form → Outcome → Type 0
+  Does catalog (Check path) how = ⊥
+  Does catalog (Play path) outcome.Done = Played catalog end.Done
+  Does catalog (Play path) (outcome.Refused line rule) = Played catalog (end.Refused line rule)
+  Does catalog (Play path) (outcome.Fault object.Input) = HasRisen (read_faults source) (read_faults rest) × Played catalog end.ReadFault
+  Does catalog (Play path) (outcome.Fault object.Output) = HasRisen (write_faults sink) (write_faults full) × Played catalog end.WriteFault
+  Does catalog (Play path) outcome.NoMemory = Played catalog end.NoMemory
+  Does catalog (Play path) (outcome.Fault object.Conf) = ⊥
+  Does catalog (Play path) (outcome.Conf fault) = ⊥
+  Does catalog (Play path) outcome.Usage = ⊥
+  Does catalog (Wire path) outcome.Done = (how : SessionEnd) × IsOver how × Wired catalog how
+  Does catalog (Wire path) (outcome.Fault object.Input) = HasRisen (read_faults source) (read_faults rest) × Wired catalog ends.ClientFault
+  Does catalog (Wire path) (outcome.Fault object.Output) = HasRisen (write_faults sink) (write_faults full) × Wired catalog ends.ClientFault
+  Does catalog (Wire path) outcome.NoMemory = Wired catalog ends.NoMemory
+  Does catalog (Wire path) (outcome.Refused line rule) = ⊥
+  Does catalog (Wire path) (outcome.Fault object.Conf) = ⊥
+  Does catalog (Wire path) (outcome.Conf fault) = ⊥
+  Does catalog (Wire path) outcome.Usage = ⊥
 
-  -- the same on any configuration: refused exactly where it isn't run, and then nothing was read or written
+  -- the same on the bytes of a configuration: refused where it breaks a rule, and then nothing was read or written
   abbrev pub RunsOn : List ℕ → Form → Outcome → Type 0
-  RunsOn conf form (outcome.Conf rule) = Unrun conf rule × IsIdle gives has_ended takes source rest sink full
-  RunsOn conf form outcome.Done = (conf ≡ FIRST_CONF.now) × Does form outcome.Done
-  RunsOn conf form (outcome.Refused line rule) = (conf ≡ FIRST_CONF.now) × Does form (outcome.Refused line rule)
-  RunsOn conf form (outcome.Fault object) = (conf ≡ FIRST_CONF.now) × Does form (outcome.Fault object)
-  RunsOn conf form outcome.NoMemory = IsIdle gives has_ended takes source rest sink full ⊎ ((conf ≡ FIRST_CONF.now) × Does form outcome.NoMemory)
+  RunsOn conf form (outcome.Conf rule) = Breaks conf rule × IsIdle gives has_ended takes source rest sink full
+  RunsOn conf form outcome.NoMemory = IsIdle gives has_ended takes source rest sink full ⊎ ((catalog : View) × IsCatalog conf catalog × Does catalog form outcome.NoMemory)
   RunsOn conf form outcome.Usage = ⊥
+  RunsOn conf form how = (catalog : View) × IsCatalog conf catalog × Does catalog form how
 
   -- by the form of the words, on any configuration
   abbrev pub DoesOn : List ℕ → Form → Outcome → Type 0
@@ -252,3 +242,15 @@ module _ {F S K : Type 0} (holds : F → List ℕ → Option (List ℕ) → Type
   Runs outcome.NoMemory = IsSome (form_of words) × (Idle ⊎ Did outcome.NoMemory)
   Runs outcome.Done = Did outcome.Done
   Runs (outcome.Refused line rule) = Did (outcome.Refused line rule)
+
+  -- nothing was read or written, or what was written is a front of what the words ask for
+  abbrev pub IsFrontOf : Type 0
+  IsFrontOf = Idle ⊎ ((form : Form) × (catalog : View) × IsConfigured holds words files form catalog × FrontBy gives has_ended takes source rest sink full form catalog)
+
+  -- what was written is the whole of what the words ask for
+  abbrev pub IsWhole : Type 0
+  IsWhole = (form : Form) × (catalog : View) × IsConfigured holds words files form catalog × WholeBy gives has_ended takes source rest sink full form catalog
+
+  -- what was written is the transcript up to the first line that breaks a rule
+  abbrev pub IsStopped : ℕ → LineRule → Type 0
+  IsStopped line rule = (form : Form) × (catalog : View) × IsConfigured holds words files form catalog × StopsAt gives has_ended takes source rest sink full catalog line rule

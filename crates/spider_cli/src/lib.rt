@@ -1,43 +1,44 @@
 //! The program `spider_local`: its top call.
 //!
 //! [`spider_local`] does what the command's words say, over any files, input, output and error output. Of the forms of the words three
-//! are built. `check CONF` writes the links of a configuration, or says which rule it breaks. `play CONF` plays the schedule on the input, with the front, the backend and what lies between in memory, and writes
-//! the transcript. `wire CONF` serves one session of packets of the MySQL protocol, from the first command on, between the input and the output.
-//! For these two CONF has to be the one configuration that is built, [`FIRST_CONF`].
+//! are built. `check CONF` writes the links of a configuration, or says which rule it breaks. `play CONF` plays the schedule on the input, with the front, its
+//! servers' stores and what lies between in memory, and writes the transcript. `wire CONF` serves one session of packets of the MySQL protocol, from the first
+//! command on, between the input and the output.
 //!
-//! The way of a line: `world_play` cuts it out of the input, `schedule` reads it, `world` hands its statement to `fixed_core` and
-//! that one's requests to `branch_store`, and `transcript` writes what the front gave out. `laws` states what the definitions
-//! say of one another: each answer is a plain session's, and the decided transactions are a serial history of one plain table.
+//! The way of a line: `world_play` cuts it out of the input, `schedule` reads it, `world` hands its statement to `front_core` and
+//! that one's requests to `branch_store`, and `transcript` writes what the front gave out. `end_text` writes what the servers hold at the end. `laws` states
+//! what the definitions say of one another: each answer is a plain session's, and the decided transactions are a serial history of plain tables.
 #![tactic(auto)]
 
-ghost use Rattle.std.specs.Prelude.{◌≡◌, ◌≢◌, ◌↔◌, ◌⊎◌, None, map, string_bytes, List, ℕ, option_map};
+ghost use Rattle.std.specs.Prelude.{◌≡◌, ◌↔◌, ◌⊎◌, None, map, string_bytes, List, ℕ, option_map};
 ghost use Rattle.my_wire.specs.Counts.{HasRisen};
-ghost use Rattle.spider_cli.specs.History.{IsPlain};
+ghost use Rattle.world_runs.specs.History.{IsPlain};
 ghost use Rattle.spider_cli.specs.Outcome.{code_of, text_of};
-ghost use Rattle.spider_cli.specs.Top.{Check, Play, Wire, form_of, word_form, path_of, DoesOn, Runs, Says, FrontBy, WholeBy, StopsAt, IsRefused, IsUnrun, RunsOn, Checked};
+ghost use Rattle.spider_cli.specs.Top.{Play, Wire, form_of, word_form, path_of, Does, DoesOn, Runs, Says, IsFrontOf, IsWhole, IsStopped, IsRefused, RunsOn, Checked};
 ghost use Rattle.catalog.specs.Conf.{IsCatalog};
+ghost use Rattle.catalog.specs.Views.{View};
+ghost use Rattle.plain_sessions.specs.Held.{CanBeServed};
 ghost use Rattle.spider_cli.specs.Forms.{form_view};
 ghost use Rattle.spider_cli.specs.declared.outcome.Outcome.{Outcome};
-ghost use Rattle.spider_cli.specs.declared.schedule.LineRule.{LineRule};
+ghost use Rattle.world_runs.specs.declared.schedule.LineRule.{LineRule};
 
-mod branch_store;
 mod conf;
+mod end_text;
 mod laws;
 mod outcome;
 mod schedule;
 mod transcript;
-mod wire_play;
 mod world;
 mod world_play;
 
 use catalog::{Catalog, read_catalog};
-pub use conf::FIRST_CONF;
-use conf::{broken_rule, is_built, refusal};
+use conf::refused;
 use conf_check::links_text;
 use laws::is_plain;
 use list_types::Text;
 use my_wire::{End, Files, FilesFault, Sink, Source, Status, write_all};
 use outcome::{Object, Outcome, say, status_code};
+use phase_law::configurations_can_be_served;
 use std::alloc::Global;
 use wire_play::{WireEnd, wire};
 use world_play::{PlayEnd, play};
@@ -78,25 +79,18 @@ fn form_of(words: &[String]) -> Option<Form<'_>>
     }
 }
 
-/// A configuration isn't run.
-fn refused(alloc: Global, conf: &[u8]) -> Outcome
-    requires { conf.now ≢ FIRST_CONF.now }
-    ensures { IsUnrun conf.now result }
+/// Plays the input on a catalog.
+fn play_catalog<I: Source, O: Sink>(
+    alloc: Global,
+    catalog: Catalog,
+    input: &mut I,
+    out: &mut O,
+) -> Outcome
+    requires { CanBeServed catalog }
+    ensures { (path : List ℕ) → Does I.gives I.has_ended I.faults O.takes O.faults input.old input.new out.old out.new catalog (Play path) result }
 {
-    match refusal(alloc, conf) {
-        Ok(rule) => Outcome::Conf(rule),
-        Err(_) => Outcome::NoMemory,
-    }
-}
-
-/// Plays the input on the configuration that is built.
-fn play_built<I: Source, O: Sink>(alloc: Global, conf: &[u8], input: &mut I, out: &mut O) -> Outcome
-    requires { conf.now ≡ FIRST_CONF.now }
-    ensures { (path : List ℕ) → RunsOn I.gives I.has_ended I.faults O.takes O.faults input.old input.new out.old out.new conf.now (Play path) result }
-{
-    match play(alloc, conf, input, out) {
+    match play(alloc, catalog, input, out) {
         PlayEnd::Done => Outcome::Done,
-        PlayEnd::Conf(_) => unreachable!(),
         PlayEnd::Refused { line, rule } => Outcome::Refused { line, rule },
         PlayEnd::ReadFault => Outcome::Fault(Object::Input),
         PlayEnd::WriteFault => Outcome::Fault(Object::Output),
@@ -108,24 +102,39 @@ fn play_built<I: Source, O: Sink>(alloc: Global, conf: &[u8], input: &mut I, out
 fn play_on<I: Source, O: Sink>(alloc: Global, conf: &[u8], input: &mut I, out: &mut O) -> Outcome
     ensures { (path : List ℕ) → RunsOn I.gives I.has_ended I.faults O.takes O.faults input.old input.new out.old out.new conf.now (Play path) result }
 {
-    if !is_built(conf) {
-        return refused(alloc, conf);
+    configurations_can_be_served();
+    match read_catalog(alloc, conf) {
+        Ok(catalog) => play_catalog(alloc, catalog, input, out),
+        Err(fault) => refused(alloc, &fault),
     }
-    play_built(alloc, conf, input, out)
+}
+
+/// Serves one session of packets on a catalog.
+fn wire_catalog<I: Source, O: Sink>(
+    alloc: Global,
+    catalog: Catalog,
+    input: &mut I,
+    out: &mut O,
+) -> Outcome
+    requires { CanBeServed catalog }
+    ensures { (path : List ℕ) → Does I.gives I.has_ended I.faults O.takes O.faults input.old input.new out.old out.new catalog (Wire path) result }
+{
+    match wire(alloc, catalog, input, out) {
+        WireEnd::Done => Outcome::Done,
+        WireEnd::Failed(End::Source) => Outcome::Fault(Object::Input),
+        WireEnd::Failed(End::Sink) => Outcome::Fault(Object::Output),
+        WireEnd::NoMemory => Outcome::NoMemory,
+    }
 }
 
 /// Serves one session of packets on a configuration.
 fn wire_on<I: Source, O: Sink>(alloc: Global, conf: &[u8], input: &mut I, out: &mut O) -> Outcome
     ensures { (path : List ℕ) → RunsOn I.gives I.has_ended I.faults O.takes O.faults input.old input.new out.old out.new conf.now (Wire path) result }
 {
-    if !is_built(conf) {
-        return refused(alloc, conf);
-    }
-    match wire(alloc, input, out) {
-        WireEnd::Done => Outcome::Done,
-        WireEnd::Failed(End::Source) => Outcome::Fault(Object::Input),
-        WireEnd::Failed(End::Sink) => Outcome::Fault(Object::Output),
-        WireEnd::NoMemory => Outcome::NoMemory,
+    configurations_can_be_served();
+    match read_catalog(alloc, conf) {
+        Ok(catalog) => wire_catalog(alloc, catalog, input, out),
+        Err(fault) => refused(alloc, &fault),
     }
 }
 
@@ -148,10 +157,7 @@ fn check_on<O: Sink>(alloc: Global, conf: &[u8], out: &mut O) -> Outcome
 {
     match read_catalog(alloc, conf) {
         Ok(catalog) => write_links(alloc, &catalog, out),
-        Err(fault) => match broken_rule(alloc, &fault) {
-            Ok(rule) => Outcome::Conf(rule),
-            Err(_) => Outcome::NoMemory,
-        },
+        Err(fault) => refused(alloc, &fault),
     }
 }
 
@@ -220,12 +226,12 @@ pub fn spider_local<F: Files, I: Source, O: Sink, E: Sink>(
     out: &mut O,
     err: &mut E,
 ) -> Status
-    // What is written is always a front: of the transcript of the schedule that was read, or of what the client of a session of packets is sent for
-    // its bytes, in which the statements' answers are a plain session's.
-    ensures prefix { FrontBy I.gives I.has_ended O.takes input.old input.new out.old out.new (form_of (map string_bytes words.now)) }
+    // What is written is always a front: of a catalog's links, of the transcript of the schedule that was read, or of what the client of a session of
+    // packets is sent for its bytes, in which the statements' answers are a plain session's. Else nothing was read or written.
+    ensures prefix { IsFrontOf F.holds F.faults I.gives I.has_ended I.faults O.takes O.faults (map string_bytes words.now) files.old files.new input.old input.new out.old out.new }
 
     // Status 0: it is the whole, of a schedule that was read to its end, or of a session to its end.
-    ensures done { result.code ≡ 0 → WholeBy I.gives I.has_ended O.takes input.old input.new out.old out.new (form_of (map string_bytes words.now)) }
+    ensures done { result.code ≡ 0 → IsWhole F.holds F.faults I.gives I.has_ended I.faults O.takes O.faults (map string_bytes words.now) files.old files.new input.old input.new out.old out.new }
 
     // Status 1 comes only where a count rose, 4 only where the file that the words name is refused by a rule, and 5 only at the first line that breaks
     // a rule. Status 2 says exactly that the words have no form.
@@ -233,14 +239,15 @@ pub fn spider_local<F: Files, I: Source, O: Sink, E: Sink>(
         HasRisen (F.faults files.old) (F.faults files.new) ⊎ HasRisen (I.faults input.old) (I.faults input.new) ⊎ HasRisen (O.faults out.old) (O.faults out.new) }
     ensures usage { (result.code ≡ 2) ↔ (form_of (map string_bytes words.now) ≡ None) }
     ensures conf { result.code ≡ 4 → (rule : List ℕ) × IsRefused F.holds (map string_bytes words.now) files.old rule }
-    ensures refused { result.code ≡ 5 → (line : ℕ) × (rule : LineRule) × StopsAt I.gives I.has_ended O.takes input.old input.new out.old out.new line rule }
+    ensures refused { result.code ≡ 5 → (line : ℕ) × (rule : LineRule)
+        × IsStopped F.holds F.faults I.gives I.has_ended I.faults O.takes O.faults (map string_bytes words.now) files.old files.new input.old input.new out.old out.new line rule }
 
     // Each status with its cause, its text on error output and all that was read and written by then.
     ensures ends { (how : Outcome) × (result.code ≡ code_of how) × Says E.takes E.faults err.old (text_of how) err.new
         × Runs F.holds F.faults I.gives I.has_ended I.faults O.takes O.faults (map string_bytes words.now) files.old files.new input.old input.new out.old out.new how }
 
-    // The run that a schedule names is that of a plain session over a plain table: its answers, its decided transactions, its rows at the end.
-    ensures plain { (schedule : List ℕ) → IsPlain schedule }
+    // The run that a schedule names is that of a plain session over plain tables: its answers, its decided transactions, its rows at the end.
+    ensures plain { (conf : List ℕ) (catalog : View) → IsCatalog conf catalog → (schedule : List ℕ) → IsPlain catalog schedule }
 {
     is_plain();
     let how = run(alloc, words, files, input, out);

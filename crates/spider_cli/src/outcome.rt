@@ -4,10 +4,10 @@ ghost use Rattle.my_wire.specs.Counts.{HasRisen, TakesFront};
 ghost use Rattle.spider_cli.specs.Outcome.{code_of, text_of, rule_text};
 ghost use Rattle.spider_cli.specs.Top.{Says};
 
-use crate::schedule::LineRule;
 use itoa::Buffer;
 use list_types::Text;
 use my_wire::{Failed, Sink, write_all, write_three};
+use world_runs::LineRule;
 
 /// Every form of the words, those that aren't built yet too.
 const USAGE: &[u8] =
@@ -60,7 +60,11 @@ fn rule_end(rule: LineRule) -> &'static [u8]
     ensures { result.now ≡ codes ": " ++ (rule_text rule ++ codes "\n") }
 {
     match rule {
+        LineRule::NotText => b": not text\n",
+        LineRule::LineTooLong => b": line too long\n",
+        LineRule::TooManyLines => b": too many lines\n",
         LineRule::UnknownWord => b": unknown word\n",
+        LineRule::BadNumber => b": bad number\n",
     }
 }
 

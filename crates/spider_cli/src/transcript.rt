@@ -1,26 +1,34 @@
 // The transcript's text.
 ghost use Rattle.std.specs.Prelude.{◌≡◌, ◌++◌, ◌∷◌, [], OnOk, codes};
-ghost use Rattle.std.specs.Fmt.{decimal, signed_decimal};
+ghost use Rattle.std.specs.Fmt.{decimal};
 ghost use Rattle.std.specs.List.{flat_map};
-ghost use Rattle.spider_cli.specs.Transcript.{line_end, tx_text, tx_or_none, cell_text, cells_text, row_line, value_text, next_value, values_text, has_line, reply_text, output_text};
+ghost use Rattle.sql_text.specs.LinkPrinting.{link_printed};
+ghost use Rattle.world_runs.specs.Transcript.{tx_text, tx_or_none, cell_text, cells_text, row_line, reply_text, sent_text, output_text};
+ghost use Rattle.spider_cli.specs.Shown.{shown_as};
 
-use fixed_core::{Output, TxNo, VARCHAR};
-use fixed_text::push_quoted;
+use conf_check::server_text;
+use conf_file::HostEntry;
+use front_core::{Output, TxNo};
 use itoa::Buffer;
 use my_messages::{Cell, CellRow, Column, Reply};
-use sql_values::{Row, Value};
-use std::alloc::AllocError;
+use sql_text::{LinkRequest, print_link, push_quoted};
+use sql_values::ServerNo;
+use std::alloc::{AllocError, Global};
+
+/// The type of a column of texts.
+const TEXT_KIND: u8 = 253;
+
+/// How what the front gives out is shown: its servers by their names, requests only where they are traced, and the session by its number.
+#[derive(Clone, Copy)]
+pub struct Style<'a> {
+    pub servers: &'a [HostEntry],
+    pub traced: bool,
+    pub session: u32,
+}
 
 /// Adds a number in decimal.
 pub fn push_number(text: &mut Vec<u8>, number: u64) -> Result<(), AllocError>
     ensures { OnOk result (text.new.items ≡ text.old.items ++ decimal number) }
-{
-    let mut buffer = Buffer::new();
-    text.extend_from_slice(buffer.format(number).as_bytes())
-}
-
-fn push_signed(text: &mut Vec<u8>, number: i64) -> Result<(), AllocError>
-    ensures { OnOk result (text.new.items ≡ text.old.items ++ signed_decimal number) }
 {
     let mut buffer = Buffer::new();
     text.extend_from_slice(buffer.format(number).as_bytes())
@@ -49,7 +57,7 @@ fn push_cell(text: &mut Vec<u8>, column: &Column, cell: &Cell) -> Result<(), All
     match cell {
         None => text.extend_from_slice(b"NULL"),
         Some(value) => {
-            if column.kind == VARCHAR {
+            if column.kind == TEXT_KIND {
                 push_quoted(text, value.as_str().as_bytes())
             } else {
                 text.extend_from_slice(value.as_str().as_bytes())
@@ -91,44 +99,6 @@ fn push_rows(text: &mut Vec<u8>, columns: &[Column], rows: &[CellRow]) -> Result
     Ok(())
 }
 
-fn push_value(text: &mut Vec<u8>, value: &Value) -> Result<(), AllocError>
-    ensures { OnOk result (text.new.items ≡ text.old.items ++ value_text value.now) }
-{
-    match value {
-        Value::Number(number) => push_signed(text, *number),
-        Value::Text(value) => push_quoted(text, value.as_str().as_bytes()),
-    }
-}
-
-fn push_next_value(text: &mut Vec<u8>, value: &Value) -> Result<(), AllocError>
-    ensures { OnOk result (text.new.items ≡ text.old.items ++ next_value value.now) }
-{
-    text.extend_from_slice(b",")?;
-    push_value(text, value)
-}
-
-fn push_values(text: &mut Vec<u8>, values: &[Value]) -> Result<(), AllocError>
-    ensures { OnOk result (text.new.items ≡ text.old.items ++ values_text values.now) }
-{
-    let [first, others @ ..] = values else {
-        return Ok(());
-    };
-    push_value(text, first)?;
-    for value in others {
-        push_next_value(text, value)?;
-    }
-    Ok(())
-}
-
-/// Adds the line of a row that a backend has.
-pub fn push_has(text: &mut Vec<u8>, row: &Row) -> Result<(), AllocError>
-    ensures { OnOk result (text.new.items ≡ text.old.items ++ (codes "has " ++ (values_text row.now ++ line_end))) }
-{
-    text.extend_from_slice(b"has ")?;
-    push_values(text, row.as_slice())?;
-    text.extend_from_slice(b"\n")
-}
-
 fn push_error_number(text: &mut Vec<u8>, number: u16) -> Result<(), AllocError>
     ensures { OnOk result (text.new.items ≡ text.old.items ++ (codes "err " ++ (decimal number ++ (32 ∷ [])))) }
 {
@@ -167,25 +137,61 @@ fn push_reply(text: &mut Vec<u8>, reply: &Reply) -> Result<(), AllocError>
     }
 }
 
-/// Adds the lines of what the front gave out. A request has none.
-#[tactic(auto, unfolding(crate::specs::Transcript::output_text))]
-pub fn push_output(text: &mut Vec<u8>, output: &Output) -> Result<(), AllocError>
-    ensures { OnOk result (text.new.items ≡ text.old.items ++ output_text output.now) }
+/// Adds a word, the session's number and a blank.
+fn push_for(text: &mut Vec<u8>, word: &[u8], session: u32) -> Result<(), AllocError>
+    ensures { OnOk result (text.new.items ≡ text.old.items ++ (word.now ++ (decimal session ++ (32 ∷ [])))) }
+{
+    text.extend_from_slice(word)?;
+    push_number(text, u64::from(session))?;
+    text.extend_from_slice(b" ")
+}
+
+/// Adds the line of a request, where requests are traced.
+fn push_sent(
+    alloc: Global,
+    text: &mut Vec<u8>,
+    style: Style<'_>,
+    server: ServerNo,
+    request: &LinkRequest,
+) -> Result<(), AllocError>
+    ensures { OnOk result (text.new.items ≡ text.old.items ++ sent_text (shown_as style.entry) server (link_printed request.now)) }
+{
+    if !style.traced {
+        return Ok(());
+    }
+    let printed = print_link(alloc, request)?;
+    push_for(text, b"sent ", style.session)?;
+    text.extend_from_slice(server_text(style.servers, server).as_bytes())?;
+    text.extend_from_slice(b" ")?;
+    text.extend_from_slice(printed.as_slice())?;
+    text.extend_from_slice(b"\n")
+}
+
+/// Adds the lines of one output.
+#[tactic(auto, unfolding(world_runs::specs::Transcript::output_text))]
+pub fn push_output(
+    alloc: Global,
+    text: &mut Vec<u8>,
+    style: Style<'_>,
+    output: &Output,
+) -> Result<(), AllocError>
+    ensures { OnOk result (text.new.items ≡ text.old.items ++ output_text (shown_as style.entry) output.now) }
 {
     match output {
-        Output::Send { .. } | Output::Await { .. } => Ok(()),
+        Output::Send { server, request } => push_sent(alloc, text, style, *server, request),
+        Output::Await { .. } => Ok(()),
         Output::Decided { tx } => {
             text.extend_from_slice(b"decided ")?;
             push_tx(text, *tx)?;
             text.extend_from_slice(b"\n")
         }
         Output::Acked { tx } => {
-            text.extend_from_slice(b"ack 1 ")?;
+            push_for(text, b"ack ", style.session)?;
             push_tx(text, *tx)?;
             text.extend_from_slice(b"\n")
         }
         Output::Answer { tx, reply } => {
-            text.extend_from_slice(b"answer 1 ")?;
+            push_for(text, b"answer ", style.session)?;
             push_tx_or_none(text, *tx)?;
             text.extend_from_slice(b" ")?;
             push_reply(text, reply)

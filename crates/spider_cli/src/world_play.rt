@@ -1,23 +1,25 @@
 // A schedule is played: from its bytes to the transcript's, a piece at a time.
-ghost use Rattle.std.specs.Prelude.{◌≡◌, ◌≢◌, ◌<◌, ◌≤◌, length, IfOk};
+ghost use Rattle.std.specs.Prelude.{◌≡◌, ◌<◌, ◌≤◌, length, IfOk};
 ghost use Rattle.my_wire.specs.Counts.{HasRisen};
-ghost use Rattle.spider_cli.specs.Playing.{Plays, IsPlayed};
+ghost use Rattle.plain_sessions.specs.Held.{CanBeServed};
+ghost use Rattle.spider_cli.specs.Playing.{Plays};
 ghost use Rattle.spider_cli.specs.Showing.{Shows};
-ghost use Rattle.spider_cli.specs.declared.conf.ConfFault.{ConfFault};
+ghost use Rattle.spider_cli.specs.Shown.{shown};
+ghost use Rattle.world_runs.specs.World.{new_world};
 
-use crate::conf::{ConfFault, is_built};
-use crate::schedule::{LONGEST_LINE, LineRule, cut_line};
-use crate::world::{StepFault, World};
+use crate::end_text::push_end;
+use crate::schedule::cut_at;
+use crate::world::{Stage, StepFault, World};
+use catalog::Catalog;
 use my_wire::{Sink, Source, write_all};
 use std::alloc::{AllocError, AllocFailed, Global};
+use world_runs::LineRule;
 
 /// How a play ended.
 #[derive(Clone, Copy, Debug, PartialEq, Eq)]
 pub enum PlayEnd {
     /// The schedule was played to its end.
     Done,
-    /// The configuration is refused. Nothing was read or written.
-    Conf(ConfFault),
     /// This line breaks this rule. The lines before it were played.
     Refused { line: u64, rule: LineRule },
     /// Reading the schedule failed.
@@ -62,10 +64,10 @@ impl<T: Drop> From<AllocFailed<T>> for PlayFault {
 /// How many bytes are read at once.
 const ROOM: usize = 65_536;
 
-/// The world, the line that isn't whole yet, and how many lines were played.
+/// The stage, the line that isn't whole yet, and how many lines were played.
 #[derive(Drop)]
 pub struct Player {
-    world: World,
+    stage: Stage,
     line: Vec<u8>,
     number: u64,
 }
@@ -73,16 +75,23 @@ pub struct Player {
 impl Player {
     ghost use Rattle.std.specs.Prelude.{◌≡◌, ◌++◌, ◌∷◌, ◌<◌, [], ℕ, List, length, Some, None, OnOk};
     ghost use Rattle.spider_cli.specs.Playing.{IsReady, NoEnd, run_from, told_by};
-    ghost use Rattle.spider_cli.specs.Run.{told, with_front, transcript};
-    ghost use Rattle.spider_cli.specs.declared.schedule.LineRule.{LineRule};
+    ghost use Rattle.world_runs.specs.Run.{told, with_front, end_of, transcript};
+    ghost use Rattle.world_runs.specs.World.{new_world};
+    ghost use Rattle.world_runs.specs.declared.schedule.LineRule.{LineRule};
+    ghost use Rattle.spider_cli.specs.Shown.{shown};
 
-    /// A player that has played nothing. It takes no memory.
-    fn new(alloc: Global) -> Player
+    /// A player that has played nothing on this world. It takes no memory.
+    fn new(alloc: Global, world: World) -> Player
+        requires { shown world ≡ new_world world.front.catalog }
         ensures ready { IsReady result }
-        ensures fresh { (rest : List ℕ) → told_by result rest ≡ transcript rest }
+        ensures fresh { (rest : List ℕ) → told_by result rest ≡ transcript world.front.catalog rest }
     {
+        let stage = Stage {
+            world,
+            traced: false,
+        };
         Player {
-            world: World::new(alloc),
+            stage,
             line: Vec::new(alloc),
             number: 0,
         }
@@ -98,7 +107,7 @@ impl Player {
             record { text = text.new.items; refusal = Some (line, rule) } ≡ with_front text.old.items (told (run_from self.old (self.old.line.items ∷ lines))) }
     {
         let number = self.number + 1;
-        match self.world.step(alloc, number, self.line.as_slice(), text) {
+        match self.stage.step(alloc, number, self.line.as_slice(), text) {
             Ok(()) => {
                 self.number = number;
                 Ok(())
@@ -124,23 +133,14 @@ impl Player {
     }
 
     /// Takes bytes that end no line.
-    fn grow(&mut self, bytes: &[u8]) -> Result<(), PlayFault>
+    fn grow(&mut self, bytes: &[u8]) -> Result<(), AllocError>
         requires ready { IsReady self.old }
         requires no_end { NoEnd bytes.now }
         ensures ready { OnOk result (IsReady self.new) }
         ensures told { OnOk result ((text : List ℕ) (rest : List ℕ) →
             with_front text (told_by self.new rest) ≡ with_front text (told_by self.old (bytes.now ++ rest))) }
-        ensures refused { (line : ℕ) (rule : LineRule) → result ≡ Err (PlayFault.Refused line rule) → (text : List ℕ) (rest : List ℕ) →
-            record { text = text; refusal = Some (line, rule) } ≡ with_front text (told_by self.old (bytes.now ++ rest)) }
     {
-        if bytes.len() > LONGEST_LINE - self.line.len() {
-            return Err(PlayFault::Refused {
-                line: self.number + 1,
-                rule: LineRule::UnknownWord,
-            });
-        }
-        self.line.extend_from_slice(bytes)?;
-        Ok(())
+        self.line.extend_from_slice(bytes)
     }
 
     /// Takes the rest of a line, and its end.
@@ -167,11 +167,20 @@ impl Player {
             record { text = text.new.items; refusal = Some (line, rule) } ≡ with_front text.old.items (told_by self.old (piece.now ++ rest)) }
     {
         let mut left = piece;
-        while let Some((line, more)) = cut_line(left) {
+        while let Some((line, more)) = cut_at(b'\n', left) {
             self.take_line(alloc, line, text)?;
             left = more;
         }
-        self.grow(left)
+        self.grow(left)?;
+        Ok(())
+    }
+
+    /// Adds what the schedule's end tells.
+    fn push_end(&self, alloc: Global, text: &mut Vec<u8>) -> Result<(), AllocError>
+        ensures { OnOk result (text.new.items ≡ text.old.items ++ end_of None (shown self.now.stage.world)) }
+    {
+        let world = &self.stage.world;
+        push_end(alloc, text, world.front.catalog(), world.stores.as_slice())
     }
 
     /// The schedule is at its end, and its last line had none.
@@ -183,7 +192,7 @@ impl Player {
             record { text = text.new.items; refusal = Some (line, rule) } ≡ with_front text.old.items (told_by self.old []) }
     {
         self.end_line(alloc, text)?;
-        self.world.store.push_end(text)?;
+        self.push_end(alloc, text)?;
         Ok(())
     }
 
@@ -197,7 +206,7 @@ impl Player {
         if !self.line.is_empty() {
             return self.finish_line(alloc, text);
         }
-        self.world.store.push_end(text)?;
+        self.push_end(alloc, text)?;
         Ok(())
     }
 }
@@ -233,29 +242,15 @@ fn make_room(alloc: Global, size: usize) -> Result<Vec<u8>, AllocError>
 ///
 /// What it writes is a front of the transcript of what it read, and the whole where it is done; the schedule was then read
 /// to its end. A refused line ends it: then the transcript of the lines before stands written. Memory grows with the
-/// longest line and with the table, not with the schedule or the transcript.
+/// longest line and with the tables, not with the schedule or the transcript.
 pub fn play<S: Source, K: Sink>(
     alloc: Global,
-    conf: &[u8],
+    catalog: Catalog,
     schedule: &mut S,
     out: &mut K,
 ) -> PlayEnd
-    ensures played { IsPlayed S.gives S.has_ended K.takes conf.now schedule.old schedule.new out.old out.new result }
-    ensures reading { result ≡ PlayEnd.ReadFault → HasRisen (S.faults schedule.old) (S.faults schedule.new) }
-    ensures writing { result ≡ PlayEnd.WriteFault → HasRisen (K.faults out.old) (K.faults out.new) }
-    ensures later_in { S.faults schedule.old ≤ S.faults schedule.new }
-    ensures later_out { K.faults out.old ≤ K.faults out.new }
-{
-    if !is_built(conf) {
-        return PlayEnd::Conf(ConfFault::NotBuilt);
-    }
-    play_built(alloc, schedule, out)
-}
-
-/// The same on the configuration that is built.
-fn play_built<S: Source, K: Sink>(alloc: Global, schedule: &mut S, out: &mut K) -> PlayEnd
-    ensures plays { Plays S.gives S.has_ended K.takes schedule.old schedule.new out.old out.new result }
-    ensures built { (fault : ConfFault) → result ≢ PlayEnd.Conf fault }
+    requires { CanBeServed catalog }
+    ensures plays { Plays S.gives S.has_ended K.takes catalog schedule.old schedule.new out.old out.new result }
     ensures reading { result ≡ PlayEnd.ReadFault → HasRisen (S.faults schedule.old) (S.faults schedule.new) }
     ensures writing { result ≡ PlayEnd.WriteFault → HasRisen (K.faults out.old) (K.faults out.new) }
     ensures later_in { S.faults schedule.old ≤ S.faults schedule.new }
@@ -264,25 +259,29 @@ fn play_built<S: Source, K: Sink>(alloc: Global, schedule: &mut S, out: &mut K) 
     let Ok(mut room) = make_room(alloc, ROOM) else {
         return PlayEnd::NoMemory;
     };
-    play_in(alloc, room.as_mut_slice(), schedule, out)
+    let Ok(world) = World::new(alloc, catalog) else {
+        return PlayEnd::NoMemory;
+    };
+    play_in(alloc, world, room.as_mut_slice(), schedule, out)
 }
 
-/// The same, with a room for what is read at once.
+/// The same, on a world that is new, with a room for what is read at once.
 fn play_in<S: Source, K: Sink>(
     alloc: Global,
+    world: World,
     room: &mut [u8],
     schedule: &mut S,
     out: &mut K,
 ) -> PlayEnd
-    requires { 0 < length room.old }
-    ensures plays { Plays S.gives S.has_ended K.takes schedule.old schedule.new out.old out.new result }
-    ensures built { (fault : ConfFault) → result ≢ PlayEnd.Conf fault }
+    requires room { 0 < length room.old }
+    requires fresh { shown world ≡ new_world world.front.catalog }
+    ensures plays { Plays S.gives S.has_ended K.takes world.front.catalog schedule.old schedule.new out.old out.new result }
     ensures reading { result ≡ PlayEnd.ReadFault → HasRisen (S.faults schedule.old) (S.faults schedule.new) }
     ensures writing { result ≡ PlayEnd.WriteFault → HasRisen (K.faults out.old) (K.faults out.new) }
     ensures later_in { S.faults schedule.old ≤ S.faults schedule.new }
     ensures later_out { K.faults out.old ≤ K.faults out.new }
 {
-    let mut player = Player::new(alloc);
+    let mut player = Player::new(alloc, world);
     let mut text = Vec::new(alloc);
     loop {
         let count = match schedule.read(room) {

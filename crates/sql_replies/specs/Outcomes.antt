@@ -3,6 +3,7 @@ use Rattle.std.specs.Prelude.{◌≡◌, ℕ, ◌<◌, ◌≤◌, ◌==◌, ◌&
 use Rattle.std.specs.List.{list_all, starts_with}
 use Rattle.std.specs.Option.{option_map_or}
 use Rattle.my_messages.specs.declared.reply.Reply.{Reply}
+use Rattle.conf_file.specs.declared.entries.HostEntry.{HostEntry}
 use Rattle.sql_values.specs.declared.table.Kind.{Kind}
 use Rattle.sql_values.specs.declared.table.TableDef.{TableDef}
 use Rattle.sql_values.specs.declared.value.Value.{Value}
@@ -19,14 +20,14 @@ abbrev pub limit_in : List ℕ → List ℕ
 limit_in message = if starts_with nat_eq message (codes "Limit: ") then shown (drop 7 message) else []
 
 -- a server's name, by its place
-abbrev pub server_name : List (List ℕ) → ℕ → List ℕ
-server_name servers server = option_map_or (λ name. name) (slice_get servers server) []
+abbrev pub server_name : List HostEntry → ℕ → List ℕ
+server_name servers server = option_map_or (λ (host : HostEntry). host.name) (slice_get servers server) []
 
 -- want of memory at a backend is the client's answer too, and so is a limit that a scan passes
-abbrev pub refusal_reply : List (List ℕ) → Bool → Refusal → Reply
-refusal_reply servers is_scan refusal =
+abbrev pub refusal_reply : List HostEntry → Refusal → Reply
+refusal_reply servers refusal =
     if refusal.number == 1037 then no_memory_reply
-    else if is_scan && refusal.number == 14010 then limit_reply (limit_in refusal.message)
+    else if refusal.scanning && refusal.number == 14010 then limit_reply (limit_in refusal.message)
     else refused_reply (server_name servers refusal.server) refusal.number
 
 -- rows that were found, reduced to the columns that the statement asks for. One that asks for none, as INSERT, finds none
@@ -34,14 +35,14 @@ abbrev pub found_reply : TableDef → Option Picks → List (List Value) → Rep
 found_reply table (Some picks) rows = rows_reply table picks rows
 found_reply table None rows = ok_reply 0
 
--- the reply to a statement on this table that asks for these columns, if it was a scan that was refused
-abbrev pub outcome_reply : TableDef → Option Picks → List (List ℕ) → Bool → Outcome → Reply
-outcome_reply table picks servers is_scan (outcome.Found rows) = found_reply table picks rows
-outcome_reply table picks servers is_scan (outcome.Inserted count) = ok_reply count
-outcome_reply table picks servers is_scan (outcome.Duplicate key) = duplicate_reply key
-outcome_reply table picks servers is_scan outcome.AnswerLimit = limit_reply (codes "answer")
-outcome_reply table picks servers is_scan outcome.WriteSetLimit = limit_reply (codes "write set")
-outcome_reply table picks servers is_scan (outcome.Refused refusal) = refusal_reply servers is_scan refusal
+-- the reply to a statement on this table that asks for these columns
+abbrev pub outcome_reply : TableDef → Option Picks → List HostEntry → Outcome → Reply
+outcome_reply table picks servers (outcome.Found rows) = found_reply table picks rows
+outcome_reply table picks servers (outcome.Inserted count) = ok_reply count
+outcome_reply table picks servers (outcome.Duplicate key) = duplicate_reply key
+outcome_reply table picks servers outcome.AnswerLimit = limit_reply (codes "answer")
+outcome_reply table picks servers outcome.WriteSetLimit = limit_reply (codes "write set")
+outcome_reply table picks servers (outcome.Refused refusal) = refusal_reply servers refusal
 
 -- no text of these rows is longer than a column may hold
 abbrev pub are_short_rows : List (List Value) → Bool

@@ -5,8 +5,9 @@ ghost use Rattle.sql_replies.specs.Outcomes.{limit_in as limit_meant, server_nam
 
 use crate::errors::{backend_refused, done, duplicate, limit, no_memory, shown};
 use crate::results::shown_rows;
+use conf_file::HostEntry;
 use my_messages::Reply;
-use sql_values::{Name, Row, TableDef};
+use sql_values::{Row, TableDef};
 use std::alloc::{AllocError, Global};
 use stmt_plan::Picks;
 use txn_phases::{Outcome, Refusal};
@@ -29,29 +30,24 @@ fn limit_in(message: &str) -> &str
 }
 
 /// The name of a server, or nothing where there is none with this number.
-fn server_name(servers: &[Name], server: u32) -> &str
+fn server_name(servers: &[HostEntry], server: u32) -> &str
     ensures { result.now ≡ name_meant servers.now server }
 {
     match servers.get(server as usize) {
-        Some(name) => name.as_str(),
+        Some(host) => host.name.as_str(),
         None => "",
     }
 }
 
 /// A backend's refusal.
-fn refused(
-    alloc: Global,
-    servers: &[Name],
-    is_scan: bool,
-    refusal: &Refusal,
-) -> Result<Reply, AllocError>
-    ensures reply { IfOk result (λ reply. reply ≡ refusal_reply servers.now is_scan refusal.now) }
+fn refused(alloc: Global, servers: &[HostEntry], refusal: &Refusal) -> Result<Reply, AllocError>
+    ensures reply { IfOk result (λ reply. reply ≡ refusal_reply servers.now refusal.now) }
     ensures bytes { IfOk result HasBytes }
 {
     if refusal.number == OUT_OF_MEMORY {
         return no_memory(alloc);
     }
-    if is_scan && refusal.number == LIMIT {
+    if refusal.scanning && refusal.number == LIMIT {
         return limit(alloc, limit_in(refusal.message.as_str()));
     }
     backend_refused(alloc, server_name(servers, refusal.server), refusal.number)
@@ -74,16 +70,15 @@ fn found(
 
 /// The reply to a statement on this table: for a SELECT with the columns that it asks for, and none for an INSERT.
 ///
-/// `servers` are the names of all servers, by number, and `is_scan` says of a refusal whether it was a scan that was refused.
+/// `servers` are all servers, by number.
 pub fn outcome_reply(
     alloc: Global,
     table: &TableDef,
     picks: &Option<Picks>,
-    servers: &[Name],
-    is_scan: bool,
+    servers: &[HostEntry],
     outcome: &Outcome,
 ) -> Result<Reply, AllocError>
-    ensures reply { IfOk result (λ reply. reply ≡ reply_to_outcome table.now picks.now servers.now is_scan outcome.now) }
+    ensures reply { IfOk result (λ reply. reply ≡ reply_to_outcome table.now picks.now servers.now outcome.now) }
     ensures bytes { IsShowable picks.now outcome.now → IfOk result HasBytes }
 {
     match outcome {
@@ -92,6 +87,6 @@ pub fn outcome_reply(
         Outcome::Duplicate(key) => duplicate(alloc, *key),
         Outcome::AnswerLimit => limit(alloc, "answer"),
         Outcome::WriteSetLimit => limit(alloc, "write set"),
-        Outcome::Refused(refusal) => refused(alloc, servers, is_scan, refusal),
+        Outcome::Refused(refusal) => refused(alloc, servers, refusal),
     }
 }

@@ -1,6 +1,7 @@
 //! Replies against the texts and bytes that are promised.
 
 use crate::*;
+use conf_file::HostEntry;
 use list_types::{Listed, Text};
 use my_messages::{Column, Reply};
 use sql_text::ParseFault;
@@ -166,6 +167,7 @@ fn refusal(alloc: Global, number: u16, message: &str) -> Result<Outcome, Fail> {
         server: 0,
         number,
         message: Text::from_str(alloc, message)?,
+        scanning: true,
     }))
 }
 
@@ -214,8 +216,11 @@ fn picks(alloc: Global) -> Result<Picks, Fail> {
 /// The reply to a statement on t, by the server s1.
 fn reply(alloc: Global, picks: &Option<Picks>, outcome: &Outcome) -> Result<Reply, Fail> {
     let table = table(alloc)?;
-    let servers = [name(alloc, "s1")?];
-    Ok(outcome_reply(alloc, &table, picks, &servers, true, outcome)?)
+    let servers = [HostEntry {
+        name: text(alloc, "s1")?,
+        address: text(alloc, "127.0.0.1:4501")?,
+    }];
+    Ok(outcome_reply(alloc, &table, picks, &servers, outcome)?)
 }
 
 fn is_outcome_told(alloc: Global, case: usize, told: &Told) -> Result<bool, Fail> {

@@ -81,6 +81,10 @@ has_form p kinds a = if is_scanning p then is_rows kinds a else is_done a
 abbrev pub awaits : Job → LinkAnswer → Bool
 awaits job a = nat_lt job.heard (length job.asked) && has_form job.phase job.scan.kinds a
 
+-- the server whose answer is read next, where one is due
+abbrev pub awaited : Job → Option ℕ
+awaited job = if nat_lt job.heard (length job.asked) then Some (get_or job.asked job.heard 0) else None
+
 -- WHAT IS ASKED
 
 abbrev pub to_each : {X : Type 0} → (X → ℕ) → (X → LinkRequest) → List X → List Ask
@@ -245,7 +249,7 @@ rows_if false rows = []
 -- what a server's answer says is kept: the first refusal, and rows that count
 abbrev pub keeps : ℕ → Bool → LinkAnswer → Job → Job
 keeps server counts (answer.Rows rows) job = with_found job (rows_if counts rows)
-keeps server counts (answer.Refused number message) job = with_refusal job (record { server = server; number = number; message = message })
+keeps server counts (answer.Refused number message) job = with_refusal job (record { server = server; number = number; message = message; scanning = is_scanning job.phase })
 keeps server counts _ job = job
 
 abbrev pub hearing : Job → Job

@@ -41,6 +41,8 @@ pub struct Refusal {
     pub number: u16,
     /// The error's text.
     pub message: Text,
+    /// Whether it was a scan that was refused.
+    pub scanning: bool,
 }
 
 /// How a statement came out.

@@ -97,8 +97,8 @@ impl Phase {
 }
 
 impl Job {
-    ghost use Rattle.std.specs.Prelude.{◌≡◌, ◌+◌, ◌<◌, [], true, length, IfOk, OnErr, Some, None};
-    ghost use Rattle.txn_phases.specs.Phases.{new_job, awaits as may_come, counts_at, marked, with_branches, with_found, rows_if, with_refusal, keeps, noted, owed_of, owed_noted, entering, asking, finished, gives_up as gives_up_by_rule, ends as ends_by_rule, selects as selects_by_rule, inserts as inserts_by_rule, owed_at, concluded, decided, follows, leaves, goes_on as goes_on_by_rule, hears, begins, server_at};
+    ghost use Rattle.std.specs.Prelude.{◌≡◌, ◌+◌, ◌-◌, ◌<◌, [], true, length, max, nat_le, IfOk, OnErr, Some, None};
+    ghost use Rattle.txn_phases.specs.Phases.{new_job, awaited, awaits as may_come, counts_at, marked, with_branches, with_found, rows_if, with_refusal, keeps, noted, owed_of, owed_noted, entering, asking, finished, gives_up as gives_up_by_rule, ends as ends_by_rule, selects as selects_by_rule, inserts as inserts_by_rule, owed_at, concluded, decided, follows, leaves, goes_on as goes_on_by_rule, hears, begins, server_at};
     ghost use Rattle.txn_phases.specs.declared.phase.Stage.{Stage};
     ghost use Rattle.txn_phases.specs.Deeds.{merged_within as merged_meant};
 
@@ -136,6 +136,27 @@ impl Job {
             return is_rows(self.scan.kinds.as_slice(), answer);
         }
         is_done(answer)
+    }
+
+    /// The server whose answer is read next, where one is due.
+    pub fn awaited(&self) -> Option<ServerNo>
+        ensures { result ≡ awaited self.now }
+    {
+        self.asked.as_slice().get(self.heard).copied()
+    }
+
+    /// So many requests a phase asks at most: as many as there are branches, or links.
+    pub fn most_asked(&self) -> usize
+        ensures { result ≡ max (length self.now.branches) (length self.now.targets) }
+    {
+        self.branches.len().max(self.targets.len())
+    }
+
+    /// Whether at most one answer is due in this phase.
+    pub fn is_last(&self) -> bool
+        ensures { result ≡ nat_le (length self.now.asked - self.now.heard) 1 }
+    {
+        self.asked.len().saturating_sub(self.heard) <= 1
     }
 
     /// Whether the rows of the link that answers next count.
@@ -176,6 +197,7 @@ impl Job {
         ensures kept { IfOk result (λ _. self.new ≡ keeps server counts answer self.old) }
         ensures owed { OnErr result (owed_of self.new ≡ owed_of self.old) }
     {
+        let scanning = self.phase.is_scanning();
         match answer {
             LinkAnswer::Rows(rows) => self.keep_rows(counts, rows),
             LinkAnswer::Refused { number, message } => {
@@ -183,6 +205,7 @@ impl Job {
                     server,
                     number,
                     message,
+                    scanning,
                 });
                 Ok(())
             }

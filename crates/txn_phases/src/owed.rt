@@ -1,9 +1,9 @@
-ghost use Rattle.std.specs.Prelude.{◌≡◌};
-ghost use Rattle.txn_phases.specs.Phases.{marked as marked_meant};
+ghost use Rattle.std.specs.Prelude.{◌≡◌, length};
+ghost use Rattle.txn_phases.specs.Phases.{marked as marked_meant, begun_of};
 
 use crate::job::is_begun;
 use crate::requests::{Asks, Word, servers_of, to_begun};
-use crate::{Branches, Stage};
+use crate::{Branch, Branches, Stage};
 use list_types::Listed;
 use sql_text::LinkAnswer;
 use sql_values::{ServerNo, ServerNos};
@@ -20,8 +20,8 @@ pub struct Owed {
 }
 
 impl Owed {
-    ghost use Rattle.std.specs.Prelude.{◌≡◌, IfOk, OnErr};
-    ghost use Rattle.txn_phases.specs.Phases.{marked, owed_next, owed_hears, owed_undoes, owed_starting};
+    ghost use Rattle.std.specs.Prelude.{◌≡◌, length, IfOk, OnErr};
+    ghost use Rattle.txn_phases.specs.Phases.{to_undo, marked, owed_next, owed_hears, owed_undoes, owed_starting};
 
     /// The server whose answer is owed next.
     pub fn next(&self) -> Option<ServerNo>
@@ -60,6 +60,16 @@ impl Owed {
         }
     }
 
+    /// How many branches have to be rolled back once all was read.
+    pub fn undo_count(&self) -> usize
+        ensures { result ≡ length (to_undo self.now) }
+    {
+        match self.stage {
+            Stage::Over => 0,
+            Stage::Starting | Stage::Open => count_begun(self.branches.as_slice()),
+        }
+    }
+
     /// Once all was read, the branches that were begun are rolled back; the answers to that are owed from then on. After want of memory nothing has
     /// changed.
     pub fn undo(&mut self, alloc: Global) -> Result<Asks, AllocError>
@@ -77,6 +87,19 @@ impl Owed {
         self.stage = Stage::Over;
         Ok(asks)
     }
+}
+
+/// How many of these branches were begun.
+fn count_begun(branches: &[Branch]) -> usize
+    ensures { result ≡ length (begun_of branches.now) }
+{
+    let mut count = 0;
+    for branch in branches {
+        if branch.begun {
+            count += 1;
+        }
+    }
+    count
 }
 
 /// The branch at that place was begun, or wasn't.

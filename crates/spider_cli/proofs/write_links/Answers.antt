@@ -8,11 +8,11 @@ returns g c =
     let bytes = c.as_slice.result.now in
     λ conf is. (
       c.in-Err.ensures.cause,
+      c.args.catalog.now,
+      is,
       record {
-        catalog = c.args.catalog.now;
         written = take f.count bytes;
         taken = f.taken;
         front = (drop f.count bytes, take-append-drop f.count bytes ∙ c.as_slice.ensures ∙ c.in-Ok.ensures);
       },
-      is,
     )

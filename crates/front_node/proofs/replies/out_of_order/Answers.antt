@@ -1,7 +1,7 @@
 use Rattle.std.proofs.Common.{◌∙◌, ◌++◌, ap, arith, codes, length}
 use Rattle.std.specs.Fmt.{decimal}
 use Rattle.std.proofs.lemmas.List.{length-append}
-use Rattle.fixed_core.proofs.Lengths.{decimal_is_short}
+use Rattle.sql_replies.proofs.Fits.{decimal_is_short}
 use Rattle.front_node.proofs.replies.out_of_order.Goals as goal
 
 pub returns-clause-bytes : goal.returns-clause-bytes

@@ -1,7 +1,7 @@
 use Rattle.std.proofs.Common.{sym, subst}
 use Rattle.std.specs.Prelude.{IfSome}
 use Rattle.my_messages.specs.Reply.{HasBytes}
-use Rattle.fixed_core.specs.Outputs.{outputs_of}
+use Rattle.front_core.specs.Outputs.{outputs_of}
 use Rattle.front_node.proofs.RepliesIn.{reply_has_bytes}
 use Rattle.front_node.proofs.statement.pass_all.Goals as goal
 

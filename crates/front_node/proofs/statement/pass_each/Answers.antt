@@ -1,7 +1,7 @@
 use Rattle.std.proofs.Common.{◌++◌, [], ◌∷◌, ◌∙◌, sym, ap, append_assoc}
 use Rattle.std.specs.Option.{option_or}
-use Rattle.fixed_core.specs.Outputs.{sends}
-use Rattle.fixed_core.proofs.Sends.{sends-append}
+use Rattle.front_core.specs.Outputs.{sends}
+use Rattle.front_node.proofs.Sends.{sends-append}
 use Rattle.front_node.specs.Asking.{reply_in}
 use Rattle.front_node.proofs.RepliesIn.{reply_in-append}
 use Rattle.front_node.proofs.statement.pass_each.Goals as goal

@@ -1,5 +1,5 @@
 use Rattle.std.proofs.Common.{◌≡◌, ◌++◌}
-use Rattle.fixed_core.specs.Outputs.{sends}
+use Rattle.front_core.specs.Outputs.{sends}
 use Rattle.front_node.specs.Asking.{reply_in}
 use Rattle.front_node.proofs.statement.pass_each.Given as goal
 

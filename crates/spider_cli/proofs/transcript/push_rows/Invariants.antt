@@ -1,6 +1,6 @@
 use Rattle.std.proofs.Common.{◌≡◌, ◌++◌, take}
 use Rattle.std.specs.List.{flat_map}
-use Rattle.spider_cli.specs.Transcript.{row_line}
+use Rattle.world_runs.specs.Transcript.{row_line}
 use Rattle.spider_cli.proofs.transcript.push_rows.Given as goal
 
 abbrev pub invariant-loop-row : goal.invariant-loop-row

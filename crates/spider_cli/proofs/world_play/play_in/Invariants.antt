@@ -5,7 +5,7 @@ use Rattle.spider_cli.proofs.world_play.play_in.Given as goal
 
 abbrev pub invariant-loop-count : goal.invariant-loop-count
 invariant-loop-count g l = record {
-  going : Going g.S.Source.gives g.K.Sink.takes l.fn.schedule l.schedule l.fn.out l.out l.player;
+  going : Going g.S.Source.gives g.K.Sink.takes l.fn.world.front.catalog l.fn.schedule l.schedule l.fn.out l.out l.player;
   ready : IsReady l.player;
   empty : l.text.items ≡ [];
   room : 0 < length l.room;

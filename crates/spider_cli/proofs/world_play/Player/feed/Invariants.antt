@@ -1,6 +1,6 @@
 use Rattle.std.proofs.Common.{◌≡◌, ◌++◌, List, ℕ, length}
 use Rattle.spider_cli.specs.Playing.{IsReady, told_by}
-use Rattle.spider_cli.specs.Run.{with_front}
+use Rattle.world_runs.specs.Run.{with_front}
 use Rattle.spider_cli.proofs.world_play.Player.feed.Given as goal
 
 -- however the schedule goes on, what is told so far and from here on is what was to be told

@@ -1,5 +1,5 @@
 use Rattle.std.proofs.Common.{◌∙◌, []}
-use Rattle.spider_cli.specs.Shown.{shown}
+use Rattle.spider_cli.specs.Shown.{scene_of}
 use Rattle.spider_cli.proofs.Telling.{passed_on, last_told, nothing_left}
 use Rattle.spider_cli.proofs.world_play.Player.finish_line.Goals as goal
 
@@ -12,4 +12,4 @@ pub returns-clause-told : goal.returns-clause-told
 returns-clause-told c =
     let player = c.end_line.new.self in
     last_told c.args.self.now c.args.text.now.items _ c.requires.ready.no_end c.requires.some
-    (nothing_left (shown player.world) player.number c.end_line.new.text.items c.push_end.new.text.items c.in_ok-push_end.ensures ∙ c.in_ok-end_line.ensures.told [])
+    (nothing_left (scene_of player.stage) player.number c.end_line.new.text.items c.push_end.new.text.items c.in_ok-push_end.ensures ∙ c.in_ok-end_line.ensures.told [])

@@ -1,5 +1,0 @@
-pub mod Digits
-pub mod Forms
-pub mod PlainTexts
-pub mod Statements
-pub mod Words

@@ -1,0 +1,10 @@
+pub mod Made
+pub mod Marking
+pub mod Named
+pub mod Parting
+pub mod Planned
+pub mod Refusing
+pub mod Rising
+pub mod Room
+pub mod Settled
+pub mod Telling

@@ -1,0 +1,6 @@
+use Rattle.std.proofs.Common.{◌≡◌, map}
+use Rattle.front_core.specs.Jobs.{placed}
+use Rattle.front_core.proofs.planning.placed_rows.Given as goal
+
+abbrev pub invariant-loop-row : goal.invariant-loop-row
+invariant-loop-row l = l.news ≡ map (placed l.def l.rule) l.yielded

@@ -1,0 +1,5 @@
+pub mod Asked
+pub mod Core
+pub mod Jobs
+pub mod Outputs
+pub mod Planned

@@ -1,0 +1,190 @@
+//! A statement's transaction by its plan.
+ghost use Rattle.std.specs.Prelude.{◌≡◌, ◌<◌, map, length, IfOk};
+ghost use Rattle.part_rules.specs.Placing.{IsRule};
+ghost use Rattle.sql_replies.specs.Outcomes.{server_name as name_meant};
+ghost use Rattle.stmt_plan.specs.Inserts.{row_key, key_name as key_named};
+ghost use Rattle.front_core.specs.Jobs.{xid_at as xid_meant, branch_at as branch_meant, branches_of as branches_meant, kinds_of as kinds_meant, placed as placed_meant, deed_by, picks_by};
+ghost use Rattle.front_core.specs.Planned.{run_by, job_by, scan_by};
+
+use crate::TxNo;
+use crate::targets::{servers_of, targets_of};
+use crate::work::Running;
+use catalog::{Catalog, Table};
+use conf_file::HostEntry;
+use list_types::{Listed, Text};
+use part_rules::{Rule, part_of};
+use sql_values::{Cond, LockMode, Name, Row, Rows, ServerNo, TableDef, Value, Xid};
+use std::alloc::{AllocError, Global};
+use stmt_plan::{Picks, Plan, Work};
+use txn_phases::{Branch, Branches, Deed, Job, Kinds, PlacedRow, PlacedRows, TableScan, Target};
+
+/// The name of a server, or nothing where there is none with this number.
+fn server_name(alloc: Global, servers: &[HostEntry], server: ServerNo) -> Result<Text, AllocError>
+    ensures { IfOk result (λ name. name ≡ name_meant servers.now server) }
+{
+    match servers.get(server as usize) {
+        Some(host) => Text::from_str(alloc, host.name.as_str()),
+        None => Text::from_str(alloc, ""),
+    }
+}
+
+/// The name of a transaction's branch at a server.
+fn xid_at(alloc: Global, catalog: &Catalog, tx: &TxNo, server: ServerNo) -> Result<Xid, AllocError>
+    ensures { IfOk result (λ xid. xid ≡ xid_meant catalog.now tx.now server) }
+{
+    let front = catalog.front().name.as_str();
+    let boot = tx.boot;
+    let number = tx.number;
+    Ok(Xid {
+        gtrid: Text::from_string(format!(in alloc; "{front}.{boot}.{number}")?),
+        bqual: server_name(alloc, catalog.servers(), server)?,
+    })
+}
+
+fn branch_at(
+    alloc: Global,
+    catalog: &Catalog,
+    tx: &TxNo,
+    server: ServerNo,
+) -> Result<Branch, AllocError>
+    ensures { IfOk result (λ branch. branch ≡ branch_meant catalog.now tx.now server) }
+{
+    Ok(Branch {
+        server,
+        xid: xid_at(alloc, catalog, tx, server)?,
+        begun: false,
+    })
+}
+
+/// A branch at each server of these links.
+fn branches_of(
+    alloc: Global,
+    catalog: &Catalog,
+    tx: &TxNo,
+    targets: &[Target],
+) -> Result<Branches, AllocError>
+    ensures { IfOk result (λ branches. branches ≡ branches_meant catalog.now tx.now targets.now) }
+{
+    let servers = servers_of(alloc, catalog.servers().len(), targets)?;
+    let mut branches = Listed::new(alloc);
+    for server in servers.as_slice() {
+        branches.push(branch_at(alloc, catalog, tx, *server)?)?;
+    }
+    Ok(branches)
+}
+
+fn kinds_of(alloc: Global, def: &TableDef) -> Result<Kinds, AllocError>
+    ensures { IfOk result (λ kinds. kinds ≡ kinds_meant def.now) }
+{
+    let mut kinds = Listed::new(alloc);
+    for column in def.columns.as_slice() {
+        kinds.push(column.kind)?;
+    }
+    Ok(kinds)
+}
+
+fn key_of(row: &Row, key: u32) -> i64
+    ensures { result ≡ row_key key row.now }
+{
+    match row.as_slice().get(key as usize) {
+        Some(Value::Number(number)) => *number,
+        _ => 0,
+    }
+}
+
+/// A new row, with its key and its partition.
+fn placed(rule: &Rule, def: &TableDef, row: Row) -> PlacedRow
+    requires { IsRule rule.now }
+    ensures { result ≡ placed_meant def.now rule.now row }
+{
+    let key = key_of(&row, def.key);
+    let part = part_of(rule, key).unwrap_or(0);
+    PlacedRow { part, key, row }
+}
+
+fn placed_rows(
+    alloc: Global,
+    rule: &Rule,
+    def: &TableDef,
+    rows: Rows,
+) -> Result<PlacedRows, AllocError>
+    requires { IsRule rule.now }
+    ensures { IfOk result (λ placed. placed ≡ map (placed_meant def.now rule.now) rows) }
+{
+    let mut news = Listed::new(alloc);
+    for row in rows.into_vec() {
+        news.push(placed(rule, def, row))?;
+    }
+    Ok(news)
+}
+
+/// What is done with the rows, and the columns of the answer.
+fn deed_of(alloc: Global, table: &Table, work: Work) -> Result<(Deed, Option<Picks>), AllocError>
+    requires { IsRule table.now.rule }
+    ensures deed { IfOk result (λ found. found.0 ≡ deed_by table.now.def table.now.rule work) }
+    ensures picks { IfOk result (λ found. found.1 ≡ picks_by work) }
+{
+    match work {
+        Work::Insert(rows) => {
+            let news = placed_rows(alloc, &table.rule, &table.def, rows)?;
+            Ok((Deed::Insert(news), None))
+        }
+        Work::Select(picks) => Ok((Deed::Select, Some(picks))),
+    }
+}
+
+/// The name of the key column.
+fn key_name(alloc: Global, def: &TableDef) -> Result<Name, AllocError>
+    requires { def.now.key < length def.now.columns }
+    ensures { IfOk result (λ name. name ≡ key_named def.now) }
+{
+    def.columns.as_slice()[def.key as usize].name.copy(alloc)
+}
+
+/// What is asked of each link.
+fn scan_of(
+    alloc: Global,
+    def: &TableDef,
+    cond: Option<Cond>,
+    lock: LockMode,
+) -> Result<TableScan, AllocError>
+    requires { def.now.key < length def.now.columns }
+    ensures { IfOk result (λ scan. scan ≡ record { key = key_named def.now; place = def.now.key; kinds = kinds_meant def.now; cond = cond; lock = lock }) }
+{
+    Ok(TableScan {
+        key: key_name(alloc, def)?,
+        place: def.key,
+        kinds: kinds_of(alloc, def)?,
+        cond,
+        lock,
+    })
+}
+
+/// The statement of a plan on this table, as the transaction of that number.
+pub(crate) fn run_of(
+    alloc: Global,
+    catalog: &Catalog,
+    tx: TxNo,
+    table: &Table,
+    plan: Plan,
+) -> Result<Running, AllocError>
+    requires rule { IsRule table.now.rule }
+    requires key { table.now.def.key < length table.now.def.columns }
+    ensures { IfOk result (λ run. run ≡ run_by catalog.now tx table.now plan) }
+{
+    let targets = targets_of(
+        alloc,
+        plan.mode,
+        table.parts.as_slice(),
+        plan.parts.as_slice(),
+    )?;
+    let branches = branches_of(alloc, catalog, &tx, targets.as_slice())?;
+    let scan = scan_of(alloc, &table.def, plan.cond, plan.mode)?;
+    let (deed, picks) = deed_of(alloc, table, plan.work)?;
+    Ok(Running {
+        tx,
+        table: plan.table,
+        picks,
+        job: Job::new(alloc, branches, targets, scan, deed),
+    })
+}

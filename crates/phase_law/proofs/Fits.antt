@@ -1,0 +1,227 @@
+-- What a statement that breaks no rule sends fits the tables of its links.
+use Rattle.std.proofs.Common.{◌≡◌, ℕ, suc, ℤ, ◌==◌, nat_eq, Bool, true, false, List, [], ◌∷◌, ◌++◌, map, Option, Some, None, refl, arith, sym, ◌∙◌, ap, inl, inr, cond, find, filter, length}
+use Rattle.std.specs.Prelude.{slice_get, IsSomeAnd}
+use Rattle.std.specs.List.{Contains, list_all}
+use Rattle.std.specs.Option.{option_map, option_map_or, option_or}
+use Rattle.std.specs.Cmp.Lexicographic.{pointwise, bytes_decides, nat_list_eq_equiv}
+use Rattle.std.proofs.lemmas.Bool.{cases_Bool, false≢true}
+use Rattle.std.proofs.lemmas.List.Elements.{filter_agree}
+use Rattle.sql_values.specs.declared.literal.Literal.TheVariants as literal
+use Rattle.sql_values.specs.declared.table.ColumnDef.{ColumnDef}
+use Rattle.sql_values.specs.declared.table.Kind.{Kind}
+use Rattle.sql_values.specs.declared.table.Kind.TheVariants.{BigInt}
+use Rattle.sql_values.specs.declared.table.TableDef.{TableDef}
+use Rattle.sql_values.specs.declared.tree.ColumnName.{ColumnName}
+use Rattle.sql_values.specs.declared.tree.Cond.{Cond, Cond-F}
+use Rattle.sql_values.specs.declared.tree.Cond.TheFolds.{fold-roll-Cond}
+use Rattle.sql_values.specs.declared.tree.Cond.TheVariants.{rolls-In}
+use Rattle.sql_values.specs.Checks.{is_unknown, is_ambiguous, first_column, cond_columns, cond_fits, layer_columns, layer_fits, after_columns, named_fault}
+use Rattle.sql_values.specs.Columns.{may_mean, columns_meant, column_kind}
+use Rattle.sql_values.specs.Kinds.{literal_kind, are_comparable}
+use Rattle.part_rules.specs.declared.rule.Rule.{Rule}
+use Rattle.sql_text.specs.declared.statement.Select.{Select}
+use Rattle.sql_text.specs.declared.statement.Statement.{Statement}
+use Rattle.sql_text.specs.declared.statement.Statement.TheVariants as statement
+use Rattle.sql_text.specs.declared.statement.Tab.{Tab}
+use Rattle.catalog.specs.declared.tables.Table.{Table}
+use Rattle.stmt_plan.specs.declared.fault.StmtFault.{StmtFault}
+use Rattle.stmt_plan.specs.declared.fault.StmtFault.TheVariants.{NoColumn, TypeMismatch}
+use Rattle.stmt_plan.specs.Inserts.{rows_of, row_key, key_name, in_keys}
+use Rattle.stmt_plan.specs.Plans.{IsTable}
+use Rattle.stmt_plan.specs.Refusals.{refusal, no_column, ambiguous, column_count, value_fault, no_partition, mismatch, mismatch_in}
+use Rattle.stmt_plan.specs.Selects.{called, known_as, known_name, item_columns, bare_layer, unqualified}
+use Rattle.stmt_plan.proofs.BareNames.{unqualified_means_the_same}
+use Rattle.stmt_plan.proofs.Seeks.{first-append}
+use Rattle.plain_tables.specs.Rows.{Row, holds_on}
+use Rattle.plain_tables.proofs.Members.{at_front, behind, either, nothing}
+use Rattle.branch_store.specs.declared.fault.BranchFault.{BranchFault}
+use Rattle.branch_store.specs.declared.fault.BranchFault.TheVariants as fault
+use Rattle.branch_store.specs.Faults.{cond_fault, fault_of_check}
+use Rattle.txn_phases.specs.declared.phase.Target.{Target}
+use Rattle.front_core.specs.Asked.{pushed, rising}
+use Rattle.front_core.specs.Jobs.{scan_for}
+use Rattle.phase_law.proofs.Bare.{AreKnown, alone_known, conditions_fit_alike, none_ambiguous}
+use Rattle.phase_law.proofs.Lists.{is_other, at_place, place_of}
+use Rattle.phase_law.proofs.Scans.{FitsScan, KeepsAlike}
+
+-- RULES THAT ARE KEPT
+
+pub or_parts : {X : Type 0} (a b : Option X) → option_or a b ≡ None → (a ≡ None) × (b ≡ None)
+or_parts None b none = (refl, none)
+or_parts (Some x) b none = absurd (let no : Some x ≡ None = none in cc)
+
+pub unmapped : {X Y : Type 0} (f : X → Y) (a : Option X) → option_map f a ≡ None → a ≡ None
+unmapped f None none = refl
+unmapped f (Some x) none = absurd (let no : Some (f x) ≡ None = none in cc)
+
+-- no rule is broken
+pub record Passes (def : TableDef) (rule : Rule) (s : Statement) : Type 0 where
+  pub known : no_column def s ≡ None
+  pub counted : column_count def s ≡ None
+  pub stored : value_fault def s ≡ None
+  pub placed : no_partition def rule s ≡ None
+  pub comparable : mismatch def s ≡ None
+
+pub passes : (def : TableDef) (rule : Rule) (s : Statement) → refusal def rule s ≡ None → Passes def rule s
+passes def rule s none =
+    let one = or_parts (no_column def s) _ none in
+    let two = or_parts (ambiguous def s) _ one.1 in
+    let three = or_parts (column_count def s) _ two.1 in
+    let four = or_parts (value_fault def s) _ three.1 in
+    let five = or_parts (no_partition def rule s) _ four.1 in
+    let six = or_parts (mismatch def s) None five.1 in
+    record { known = one.0; counted = three.0; stored = four.0; placed = five.0; comparable = six.0 }
+
+-- CONDITIONS
+
+none_first : (found : Option ColumnName) → option_map (λ (name : ColumnName). name.column) found ≡ None → found ≡ None
+none_first None none = refl
+none_first (Some name) none = absurd (let no : Some name.column ≡ None = none in cc)
+
+pub known_first : (tables : List TableDef) (names : List ColumnName) → find (is_unknown tables) names ≡ None → first_column (is_unknown tables) names ≡ None
+unfolding first_column
+known_first tables names none = ap (option_map (λ (name : ColumnName). name.column)) none
+
+first_known : (tables : List TableDef) (names : List ColumnName) → first_column (is_unknown tables) names ≡ None → find (is_unknown tables) names ≡ None
+unfolding first_column
+first_known tables names none = none_first (find (is_unknown tables) names) none
+
+-- a condition of known columns whose kinds go together has no fault
+no_fault : (def : TableDef) (m : List ℕ) (c : Cond) → IsTable def → AreKnown def m (cond_columns c) → cond_fits (called def m ∷ []) c ≡ true → cond_fault (called def m) (Some c) ≡ None
+no_fault def m c is known fits =
+    let told : Option (List ℕ) → Option (List ℕ) → Bool → Option BranchFault = λ unknown several so. fault_of_check (after_columns (named_fault unknown several) (cond so (Some tt) None)) in
+    ap (λ u. told u (first_column (is_ambiguous (called def m ∷ [])) (cond_columns c)) (cond_fits (called def m ∷ []) c)) (known_first (called def m ∷ []) (cond_columns c) known)
+    ∙ (ap (λ a. told None a (cond_fits (called def m ∷ []) c)) (none_ambiguous def m (cond_columns c) is)
+    ∙ ap (told None None) fits)
+
+-- WHERE
+
+comparable_by : (b : Bool) → cond {A = Option StmtFault} b None (Some TypeMismatch) ≡ None → b ≡ true
+comparable_by true none = refl
+comparable_by false none = absurd (let no : Some TypeMismatch ≡ None = none in cc)
+
+pub where_known : (def : TableDef) (select : Select) (c : Cond) → select.cond ≡ Some c → no_column def (statement.Select select) ≡ None → AreKnown def (known_name select.tab) (cond_columns c)
+where_known def select c is none =
+    let test : ColumnName → Bool = is_unknown (known_as def select.tab ∷ []) in
+    let all : first_column test (item_columns select.items ++ cond_columns c) ≡ None =
+    ap (λ (o : Option Cond). first_column test (item_columns select.items ++ option_map_or cond_columns o [])) (sym is) ∙ unmapped NoColumn _ none in
+    first_known (known_as def select.tab ∷ []) (cond_columns c)
+    (or_parts (first_column test (item_columns select.items)) (first_column test (cond_columns c)) (sym (first-append test (item_columns select.items) (cond_columns c)) ∙ all)).1
+
+where_fits : (def : TableDef) (select : Select) (m : List ℕ) (o : Option Cond) → select.cond ≡ o → IsTable def → no_column def (statement.Select select) ≡ None → mismatch def (statement.Select select) ≡ None → cond_fault (called def m) (option_map unqualified o) ≡ None
+where_fits def select m None is table known comparable = refl
+where_fits def select m (Some c) is table known comparable =
+    let alike = conditions_fit_alike def (known_name select.tab) m c (where_known def select c is known) in
+    let so : cond_fits (known_as def select.tab ∷ []) c ≡ true = comparable_by (cond_fits (known_as def select.tab ∷ []) c) (ap (mismatch_in (known_as def select.tab)) (sym is) ∙ comparable) in
+    no_fault def m (unqualified c) table alike.0 (alike.1 ∙ so)
+
+-- KEYS
+
+-- the key column's own name
+abbrev key_column : TableDef → ColumnName
+key_column def = record { table = None; column = key_name def }
+
+-- the first column of a name is one that has the name
+found_kind : (name : List ℕ) (m : List ℕ) (columns : List ColumnDef) (column : ColumnDef) → Contains columns column → column.name ≡ name
+    → ((other : ColumnDef) → Contains columns other → other.name ≡ name → other.kind ≡ BigInt)
+    → option_map (λ (found : List ℕ × ColumnDef). found.1.kind) (find (may_mean (record { table = None; column = name })) (map (λ (c : ColumnDef). (m, c)) columns ++ [])) ≡ Some BigInt
+found_kind name m [] column c is all = nothing column c
+found_kind name m (first ∷ columns) column c is all = elim (cases_Bool (pointwise nat_eq first.name name)) [
+  | inl here ↦
+      let kind : first.kind ≡ BigInt = all first (at_front first columns) ((bytes_decides first.name name).0 here) in
+      rw here (ap (λ (k : Kind). Some k) kind)
+  | inr other ↦ elim (either first column columns c) [
+    | inl same ↦
+        let named : pointwise nat_eq first.name name ≡ true = (bytes_decides first.name name).1 (ap (λ (d : ColumnDef). d.name) same ∙ is) in
+        absurd (false≢true (sym other ∙ named))
+    | inr later ↦ rw other (found_kind name m columns column later is (λ d at. all d (behind first d columns at)))
+  ]
+]
+
+key_place : (o : Option ColumnDef) (columns : List ColumnDef) (key : ℕ) → slice_get columns key ≡ o → IsSomeAnd o (λ (c : ColumnDef). c.kind ≡ BigInt)
+    → (column : ColumnDef) × (slice_get columns key ≡ Some column) × (column.kind ≡ BigInt) × (option_map_or (λ (c : ColumnDef). c.name) (slice_get columns key) [] ≡ column.name)
+key_place None columns key at is = absurd is
+key_place (Some column) columns key at is = (column, at, is, ap (λ (o : Option ColumnDef). option_map_or (λ (c : ColumnDef). c.name) o []) at)
+
+key_kind : (def : TableDef) (m : List ℕ) → IsTable def → column_kind (called def m ∷ []) (key_column def) ≡ Some BigInt
+unfolding column_kind
+key_kind def m is =
+    let key = key_place (slice_get def.columns def.key) def.columns def.key refl is.key in
+    found_kind (key_name def) m def.columns key.0 (at_place def.columns def.key key.0 key.1) (sym key.3)
+    (λ other c same.
+    let at = place_of def.columns other c in
+    let place : at.0 ≡ def.key = is.apart at.0 def.key other key.0 at.1 key.1 (same ∙ key.3) in
+    let twice : Some other ≡ Some key.0 = sym at.1 ∙ (ap (slice_get def.columns) place ∙ key.1) in
+    let one : other ≡ key.0 = cc in
+    ap (λ (d : ColumnDef). d.kind) one ∙ key.2)
+
+kind_is_known : (name : ColumnName) (list : List (List ℕ × ColumnDef)) → option_map (λ (found : List ℕ × ColumnDef). found.1.kind) (find (may_mean name) list) ≡ Some BigInt → (length (filter (may_mean name) list) == 0) ≡ false
+kind_is_known name [] found = let no : None ≡ Some BigInt = found in absurd (cc)
+kind_is_known name (x ∷ list) found = elim (cases_Bool (may_mean name x)) [
+  | inl here ↦ rw here (is_other (suc (length (filter (may_mean name) list))) 0 (λ same. omega arith))
+  | inr other ↦ rw other (kind_is_known name list (rw other at found))
+]
+
+key_known : (def : TableDef) (m : List ℕ) → IsTable def → is_unknown (called def m ∷ []) (key_column def) ≡ false
+unfolding column_kind columns_meant
+key_known def m is = kind_is_known (key_column def) _ (key_kind def m is)
+
+numbers_fit : (keys : List ℤ) → list_all (λ l. are_comparable (Some BigInt) (literal_kind l)) (map literal.Number keys) ≡ true
+numbers_fit [] = refl
+numbers_fit (key ∷ keys) = numbers_fit keys
+
+keys_fit : (def : TableDef) (m : List ℕ) (keys : List ℤ) → IsTable def → cond_fault (called def m) (Some (in_keys def keys)) ≡ None
+keys_fit def m keys is =
+    let layer : Cond-F Cond = Cond-F.In (key_column def) false (map literal.Number keys) in
+    let columns : cond_columns (in_keys def keys) ≡ key_column def ∷ [] =
+    ap cond_columns (sym (rolls-In (key_column def) false (map literal.Number keys))) ∙ fold-roll-Cond (List ColumnName) layer_columns layer in
+    let fits : cond_fits (called def m ∷ []) (in_keys def keys) ≡ true =
+    ap (cond_fits (called def m ∷ [])) (sym (rolls-In (key_column def) false (map literal.Number keys)))
+    ∙ (fold-roll-Cond Bool (layer_fits (called def m ∷ [])) layer
+    ∙ (ap (λ (k : Option Kind). list_all (λ l. are_comparable k (literal_kind l)) (map literal.Number keys)) (key_kind def m is) ∙ numbers_fit keys)) in
+    no_fault def m (in_keys def keys) is (ap (find (is_unknown (called def m ∷ []))) columns ∙ alone_known def m (key_column def) (key_known def m is)) fits
+
+-- THE SCAN
+
+pushed_fits : (def : TableDef) (rule : Rule) (m : List ℕ) (s : Statement) → IsTable def → Passes def rule s → cond_fault (called def m) (pushed def s) ≡ None
+pushed_fits def rule m (statement.Insert insert) is pass = keys_fit def m (rising (map (row_key def.key) (rows_of def insert.columns insert.rows))) is
+pushed_fits def rule m (statement.Select select) is pass = where_fits def select m select.cond refl is pass.known pass.comparable
+
+-- the scan fits the table of each link
+pub scan_fits : (table : Table) (s : Statement) (t : Target) → IsTable table.def → refusal table.def table.rule s ≡ None → FitsScan table (scan_for table.def s) t
+scan_fits table s t is none =
+    let named : pointwise nat_eq (key_name table.def) (key_name table.def) ≡ true = nat_list_eq_equiv.refl (key_name table.def) in
+    ap (λ b. option_or (cond b None (Some (fault.NoColumn (key_name table.def)))) (cond_fault (called table.def t.remote) (pushed table.def s))) named
+    ∙ pushed_fits table.def table.rule t.remote s is (passes table.def table.rule s none)
+
+-- WHAT IS KEPT
+
+-- what holds under one name of the table holds under another
+bare_keys : (def : TableDef) (keys : List ℤ) → unqualified (in_keys def keys) ≡ in_keys def keys
+bare_keys def keys =
+    ap unqualified (sym (rolls-In (key_column def) false (map literal.Number keys))) ∙ fold-roll-Cond Cond bare_layer (Cond-F.In (key_column def) false (map literal.Number keys))
+
+keys_alike : (def : TableDef) (m : List ℕ) (keys : List ℤ) (row : Row) → IsTable def → holds_on (called def m) (Some (in_keys def keys)) row ≡ holds_on def (Some (in_keys def keys)) row
+keys_alike def m keys row is =
+    let tab : Tab = record { table = m; alias = None } in
+    let columns : cond_columns (in_keys def keys) ≡ key_column def ∷ [] =
+    ap cond_columns (sym (rolls-In (key_column def) false (map literal.Number keys))) ∙ fold-roll-Cond (List ColumnName) layer_columns (Cond-F.In (key_column def) false (map literal.Number keys)) in
+    let known : first_column (is_unknown (called def m ∷ [])) (cond_columns (in_keys def keys)) ≡ None =
+    known_first (called def m ∷ []) (cond_columns (in_keys def keys)) (ap (find (is_unknown (called def m ∷ []))) columns ∙ alone_known def m (key_column def) (key_known def m is)) in
+    sym (unqualified_means_the_same def tab row (in_keys def keys) known) ∙ ap (λ c. holds_on def (Some c) row) (bare_keys def keys)
+
+where_alike : (def : TableDef) (m : List ℕ) (select : Select) (row : Row) (o : Option Cond) → select.cond ≡ o → no_column def (statement.Select select) ≡ None
+    → holds_on (called def m) (option_map unqualified o) row ≡ holds_on def (option_map unqualified o) row
+where_alike def m select row None is known = refl
+where_alike def m select row (Some c) is known =
+    let all : first_column (is_unknown (known_as def select.tab ∷ [])) (cond_columns c) ≡ None = known_first (known_as def select.tab ∷ []) (cond_columns c) (where_known def select c is known) in
+    unqualified_means_the_same (called def m) select.tab row c all ∙ sym (unqualified_means_the_same def select.tab row c all)
+
+pushed_alike : (def : TableDef) (rule : Rule) (m : List ℕ) (s : Statement) (row : Row) → IsTable def → Passes def rule s → holds_on (called def m) (pushed def s) row ≡ holds_on def (pushed def s) row
+pushed_alike def rule m (statement.Insert insert) row is pass = keys_alike def m (rising (map (row_key def.key) (rows_of def insert.columns insert.rows))) row is
+pushed_alike def rule m (statement.Select select) row is pass = where_alike def m select row select.cond refl pass.known
+
+-- a link keeps the rows that the table does
+pub pushed_keeps : (table : Table) (s : Statement) (t : Target) → IsTable table.def → refusal table.def table.rule s ≡ None → KeepsAlike table (pushed table.def s) t
+pushed_keeps table s t is none rows =
+    filter_agree (holds_on (called table.def t.remote) (pushed table.def s)) (holds_on table.def (pushed table.def s)) (λ row. pushed_alike table.def table.rule t.remote s row is (passes table.def table.rule s none)) rows

@@ -1,0 +1,393 @@
+-- Every statement that breaks no rule goes through its phases to its plain answer.
+use Rattle.std.proofs.Common.{◌≡◌, ℕ, suc, ◌+◌, ◌<◌, ◌≤◌, ◌^◌, ◌++◌, ℤ, Bool, true, false, cond, List, [], ◌∷◌, map, length, Option, Some, None, refl, sym, ap, ◌∙◌, subst, arith, inl, inr}
+use Rattle.std.specs.Prelude.{◌==◌, ◌||◌, ◌&&◌, slice_get, FitsSigned, IsSome}
+use Rattle.std.specs.Option.{option_map, option_map_or}
+use Rattle.std.specs.Int.{w64}
+use Rattle.std.specs.List.{AllByRecursion, Contains, filter, flat_map, list_all, list_any, range_with_len}
+use Rattle.std.proofs.lemmas.Bool.{cases_Bool, both_ways, and_parts}
+use Rattle.std.proofs.lemmas.Int.{ints}
+use Rattle.std.proofs.lemmas.List.{length-map}
+use Rattle.sql_values.specs.declared.places.Interval.{Interval}
+use Rattle.sql_values.specs.declared.value.Value.{Value}
+use Rattle.sql_values.specs.KeySets.{AreBigInts, AreKeys, has_key, is_within}
+use Rattle.sql_values.specs.declared.table.TableDef.{TableDef}
+use Rattle.part_rules.specs.declared.rule.Rule.{Rule}
+use Rattle.part_rules.specs.Placing.{part}
+use Rattle.part_rules.specs.Pruned.{IsPruned}
+use Rattle.catalog.specs.declared.tables.Table.{Table}
+use Rattle.catalog.specs.Views.{View}
+use Rattle.catalog_plan.specs.Plans.{table_of}
+use Rattle.sql_text.specs.declared.link.LinkAnswer.{LinkAnswer}
+use Rattle.sql_text.specs.declared.link.LinkAnswer.TheVariants as answer
+use Rattle.sql_text.specs.declared.statement.Insert.{Insert}
+use Rattle.sql_text.specs.declared.statement.Select.{Select}
+use Rattle.sql_text.specs.declared.statement.Statement.{Statement}
+use Rattle.sql_text.specs.declared.statement.Statement.TheVariants as statement
+use Rattle.sql_values.specs.declared.places.LockMode.TheVariants.{Exclusive}
+use Rattle.stmt_plan.specs.Inserts.{rows_of}
+use Rattle.stmt_plan.specs.Plans.{keeps_key, mode_of, work_of}
+use Rattle.stmt_plan.specs.Plans.{IsTable as IsDefinition}
+use Rattle.stmt_plan.specs.Refusals.{refusal, no_column}
+use Rattle.stmt_plan.specs.Selects.{known_name, picks_of, known_as, unqualified}
+use Rattle.plain_tables.specs.Inserts.{put_all}
+use Rattle.plain_tables.specs.Rows.{HasKey, Row, holds_on, kept, key_of}
+use Rattle.plain_tables.specs.Partitions.{lies_in, rows_in}
+use Rattle.plain_tables.proofs.Members.{all_of, all_by, at_front, behind, kept_passes, nothing, passes_kept}
+use Rattle.std.proofs.lemmas.List.Elements.{filter_agree}
+use Rattle.branch_store.specs.declared.branch.Change.{Change}
+use Rattle.branch_store.specs.declared.branch.Stage.TheVariants.{Active}
+use Rattle.branch_store.specs.Sound.{IsRow}
+use Rattle.branch_store.specs.Store.{Store, changed_table}
+use Rattle.branch_store.specs.Tables as stored
+use Rattle.txn_phases.specs.declared.deed.Outcome.{Outcome}
+use Rattle.txn_phases.specs.declared.deed.PlacedRow.{PlacedRow}
+use Rattle.txn_phases.specs.declared.job.Job.{Job}
+use Rattle.txn_phases.specs.declared.phase.Branch.{Branch}
+use Rattle.txn_phases.specs.declared.phase.Ending.{Ending}
+use Rattle.txn_phases.specs.declared.phase.Ending.TheVariants.{Committed, Alone, RolledBack}
+use Rattle.txn_phases.specs.declared.phase.Progress.{Progress}
+use Rattle.txn_phases.specs.declared.phase.Target.{Target}
+use Rattle.txn_phases.specs.declared.requests.Ask.{Ask}
+use Rattle.txn_phases.specs.Phases.{begins, concluded, ends, gives_up, is_begun, is_shaped, puts_of, rows_if, scans_of, writes_by}
+use Rattle.front_core.specs.declared.event.TxNo.{TxNo}
+use Rattle.front_core.specs.Asked.{bigints, owns, parts_asked, parts_with, pushed}
+use Rattle.front_core.specs.Core.{table_named}
+use Rattle.front_core.specs.Jobs.{branch_at, branches_of, job_of, kinds_of, placed, scan_for, targets_for}
+use Rattle.front_core.proofs.Parting.{some_bigint, bigint_some, bigint_fits, asked_there, are_pruned}
+use Rattle.plain_sessions.specs.Exec.{Tables, rows_added, rows_found, with_rows}
+use Rattle.plain_sessions.specs.Held.{CanBeServed, stores_of, tables_at}
+use Rattle.phase_law.specs.Laws.{AreHeld, GoesThrough, StatementsGoThrough}
+use Rattle.phase_law.specs.Through.{Through}
+use Rattle.phase_law.proofs.Apart.{AreApart, among}
+use Rattle.phase_law.proofs.Branches.{branches_apart, some_branch}
+use Rattle.phase_law.proofs.Endings.{HaveBegun, ends_through, gives_up_through, ends_alone, gives_up_alone}
+use Rattle.phase_law.proofs.Fits.{passes as rule_passes}
+use Rattle.phase_law.proofs.Few.{few_branches, few_links, few_puts}
+use Rattle.phase_law.proofs.Found.{kept_in}
+use Rattle.phase_law.proofs.Left.{none_left, puts_left}
+use Rattle.phase_law.proofs.Lists.{is_itself}
+use Rattle.phase_law.proofs.Noted.{AllDone, all_begun, begun, counted}
+use Rattle.phase_law.proofs.Phases.{scanned, same_held}
+use Rattle.phase_law.proofs.Puts.{IsDone, put_answers}
+use Rattle.phase_law.proofs.RowsFit.{rows_are_shaped}
+use Rattle.phase_law.proofs.Scans.{scanned as scan_answer}
+use Rattle.phase_law.proofs.Sent.{IsNamed, table_is_named, table_is_small, table_is_sound, asked_links, statement_scans, statement_counts, statement_puts, statement_puts_done, statement_commits, new_rows_may_be}
+use Rattle.phase_law.proofs.AskedParts.{row_is_asked}
+use Rattle.phase_law.proofs.Stages.{Served, holding, no_branches, no_changes, puts_at, stores_as}
+use Rattle.phase_law.proofs.Targets.{IsLink, link_is_there}
+use Rattle.phase_law.proofs.Ways.{through_more, have_begun, begins_alone, finds_through, writes_through}
+use Rattle.phase_law.proofs.Whole.{Ways, select_goes, insert_goes, where_same, same_rows, nothing_put}
+use Rattle.phase_law.proofs.Words.{tables_after}
+
+-- A SET OF KEYS FOR EACH TEST
+
+abbrev single : ℤ → Interval
+single k = record { low = k; high = k }
+
+abbrev pub singles : (ℤ → Bool) → List Interval
+singles test = map single (filter test bigints)
+
+within_single : (key k : ℤ) → is_within key (single k) ≡ true → k ≡ key
+within_single key k inside = grind (arith, ints)
+
+single_within : (key : ℤ) → is_within key (single key) ≡ true
+single_within key = grind (arith, ints)
+
+any_by : (a b c : Bool) → (cond a (b || c) c) ≡ ((a && b) || c)
+any_by true b c = refl
+any_by false b c = refl
+
+-- a key lies in one of them where one of these is the key
+has_single : (test : ℤ → Bool) (key : ℤ) (xs : List ℤ) → has_key (map single (filter test xs)) key ≡ list_any (λ k. test k && is_within key (single k)) xs
+has_single test key [] = refl
+has_single test key (k ∷ xs) = by (test k) (has_single test key xs)
+  where
+    by : (b : Bool) → has_key (map single (filter test xs)) key ≡ list_any (λ j. test j && is_within key (single j)) xs
+        → has_key (map single (cond b (k ∷ filter test xs) (filter test xs))) key ≡ ((b && is_within key (single k)) || list_any (λ j. test j && is_within key (single j)) xs)
+    by true more = ap (λ x. is_within key (single k) || x) more
+    by false more = more
+
+pub singles_are : (test : ℤ → Bool) → AreKeys (singles test) test
+singles_are test key fits = elim (cases_Bool (test key)) [
+  | inl pass ↦
+      has_single test key bigints ∙ some_bigint (λ k. test k && is_within key (single k)) key fits (ap (λ b. b && is_within key (single key)) pass ∙ single_within key) ∙ sym pass
+  | inr fails ↦ has_single test key bigints ∙ none_there (list_any (λ k. test k && is_within key (single k)) bigints) refl fails ∙ sym fails
+]
+  where
+    none_there : (b : Bool) → list_any (λ k. test k && is_within key (single k)) bigints ≡ b → test key ≡ false → b ≡ false
+    none_there true any fails =
+        let found = bigint_some (λ k. test k && is_within key (single k)) any in
+        let both = and_parts (test found.0) (is_within key (single found.0)) found.2 in
+        absurd (both_ways (test key) fails (ap test (sym (within_single key found.0 both.1)) ∙ both.0))
+    none_there false any fails = refl
+
+-- singles end at keys of a BIGINT
+singles_end : (test : ℤ → Bool) (xs : List ℤ) → ((k : ℤ) → Contains xs k → FitsSigned w64 k) → AreBigInts (map single (filter test xs))
+singles_end test [] fits = tt
+singles_end test (k ∷ xs) fits = by (test k) (singles_end test xs (λ z c. fits z (behind k z xs c)))
+  where
+    by : (b : Bool) → AreBigInts (map single (filter test xs)) → AreBigInts (map single (cond b (k ∷ filter test xs) (filter test xs)))
+    by true more = (fits k (at_front k xs), fits k (at_front k xs), more)
+    by false more = more
+
+-- WHAT THE SCANS FIND
+
+answers_twice : {A : Type 0} (f : A → List (List Value)) (xs : List A) → map (λ x. answer.Rows (f x)) xs ≡ map (λ rows. answer.Rows rows) (map f xs)
+answers_twice f [] = refl
+answers_twice f (x ∷ xs) = ap (λ l. answer.Rows (f x) ∷ l) (answers_twice f xs)
+
+counted_flat : (f : Target → List (List Value)) (targets : List Target) → counted targets (map f targets) ≡ flat_map (λ (t : Target). rows_if t.counts (f t)) targets
+counted_flat f [] = refl
+counted_flat f (t ∷ targets) = ap (λ l. rows_if t.counts (f t) ++ l) (counted_flat f targets)
+
+done_all : (answers : List LinkAnswer) → AllByRecursion IsDone answers → AllDone answers
+done_all [] all = tt
+done_all (a ∷ answers) all = (ap is_begun all.0.1, done_all answers all.1)
+
+no_parts : {A B : Type 0} (f : A → B) (xs : List A) → [] ≡ map f xs → xs ≡ []
+no_parts f [] h = refl
+no_parts f (x ∷ xs) h = absurd (let no_one : [] ≡ f x ∷ map f xs = h in cc)
+
+no_rows_added : (xs : List Row) → ((x : Row) → Contains xs x → ⊥) → xs ≡ []
+no_rows_added [] none = refl
+no_rows_added (x ∷ xs) none = absurd (none x (at_front x xs))
+
+nothing_open : (catalog : View) (tx : TxNo) → branches_of catalog tx [] ≡ []
+nothing_open catalog tx = ap (map (branch_at catalog tx)) (none_pass (range_with_len 0 (length catalog.servers)))
+  where
+    none_pass : (xs : List ℕ) → filter (λ server. list_any (λ (t : Target). t.server == server) []) xs ≡ []
+    none_pass [] = refl
+    none_pass (x ∷ xs) = none_pass xs
+
+module _ (catalog : View) (tables : Tables) (n : ℕ) (tx : TxNo) (number : ℕ) (table : Table) (s : Statement) (served : CanBeServed catalog) (held : AreHeld catalog tables)
+    (is : table_named catalog.tables (table_of s) ≡ Some (number, table)) (passes : refusal table.def table.rule s ≡ None) where
+  abbrev servers : ℕ
+  servers = length catalog.servers
+
+  abbrev asked : List Target
+  asked = targets_for table s
+
+  abbrev branches : List Branch
+  branches = branches_of catalog tx asked
+
+  abbrev job : Job
+  job = job_of catalog tx table s
+
+  abbrev test : ℤ → Bool
+  test = keeps_key table.def (pushed table.def s)
+
+  pub named : IsNamed catalog number table
+  named = table_is_named catalog (table_of s) number table is
+
+  pub sound : IsDefinition table.def
+  sound = table_is_sound catalog number table served named
+
+  pub pruned : IsPruned table.rule (singles test) (parts_asked table.def table.rule s)
+  pruned = are_pruned table.rule test (singles test) (served.tables number table named.at).rule (singles_end test bigints (λ k c. bigint_fits k c)) (singles_are test)
+
+  -- the rows of a link's partition that the condition keeps
+  abbrev rows_at : Target → List Row
+  rows_at t = kept_in table.def table.rule (tables number) (pushed table.def s) t.part
+
+  -- WITH BRANCHES
+
+  -- the job once its scans were answered
+  abbrev found_job : Job
+  found_job = scanned (begun job) (map rows_at asked)
+
+  abbrev open_at : (ℕ → List Change) → List Store
+  open_at changes = stores_as servers (tables_at catalog tables) (holding n (all_begun branches) Active changes)
+
+  found_parts : counted asked (map rows_at asked) ≡ map (kept_in table.def table.rule (tables number) (pushed table.def s)) (parts_asked table.def table.rule s)
+  found_parts =
+      counted_flat rows_at asked ∙ statement_counts catalog tables n tx number table s served held is passes (kept_in table.def table.rule (tables number) (pushed table.def s))
+
+  shaped_rows : (targets : List Target) → AllByRecursion (λ rows. list_all (is_shaped (kinds_of table.def)) rows ≡ true) (map rows_at targets)
+  shaped_rows [] = tt
+  shaped_rows (t ∷ targets) = (
+    rows_are_shaped table.def (rows_at t)
+        (all_by (IsRow table.def) (rows_at t) (λ row c.
+        all_of (IsRow table.def) (tables number) row (held number table named.at).fit
+        (kept_passes _ (tables number) row (kept_passes _ (rows_in table.def table.rule t.part (tables number)) row c).0).0)),
+    shaped_rows targets,
+  )
+
+  module _ (first : Target) (rest : List Target) (some : asked ≡ first ∷ rest) where
+    some_asked : 0 < length asked
+    some_asked = subst (λ (l : List Target). 0 < length l) (sym some) (omega arith)
+
+    first_asked : Contains asked first
+    first_asked = subst (λ (l : List Target). Contains l first) (sym some) (at_front first rest)
+
+    first_below : first.server < servers
+    first_below = (link_is_there catalog tables number table first served named.at (asked_links catalog tables n tx number table s served held is passes first first_asked)).within
+
+    some_branches : 0 < length branches
+    some_branches =
+        some_branch catalog tx asked first.server first_below
+        (ap (list_any (λ (t : Target). t.server == first.server)) some ∙ ap (λ b. b || list_any (λ (t : Target). t.server == first.server) rest) (is_itself first.server))
+
+    few_asked : length asked ≤ 2 ^ 35
+    few_asked = few_links servers table s (served.tables number table named.at)
+
+    few_open : length branches ≤ 2 ^ 35
+    few_open = let fewer = few_branches catalog tx asked in let few = few_asked in omega (arith, fewer, few)
+
+    apart : AreApart servers branches
+    apart = branches_apart catalog tx asked
+
+    have : HaveBegun servers found_job
+    have = have_begun servers branches found_job refl apart some_branches few_open
+
+    scans : Served n (stores_as servers (tables_at catalog tables) (holding n branches Active no_changes)) (scans_of (scan_for table.def s) asked) (map (λ rows. answer.Rows rows) (map rows_at asked))
+        (stores_as servers (tables_at catalog tables) (holding n branches Active no_changes))
+    scans =
+        subst (λ answers. Served n (stores_as servers (tables_at catalog tables) (holding n branches Active no_changes)) (scans_of (scan_for table.def s) asked) answers
+        (stores_as servers (tables_at catalog tables) (holding n branches Active no_changes))) (answers_twice rows_at asked)
+        (statement_scans catalog tables n tx number table s served held is passes)
+
+    with_branches : Ways catalog tables n tx number table s sound (held number table named.at).rows_of passes (singles test) (singles_are test) pruned found_job (open_at no_changes) Committed
+    with_branches = record {
+      deed_is = refl;
+      targets_are = refl;
+      place_is = refl;
+      found_is = found_parts;
+      ended = λ o.
+          through_more 3 n false (open_at no_changes) (ends found_job o).0 (ends found_job o).1 (stores_of catalog tables) Committed o
+          (subst (λ last. Through 3 n false (open_at no_changes) (ends found_job o) last Committed o) (none_left servers (all_begun branches) (tables_at catalog tables))
+          (ends_through n servers (tables_at catalog tables) no_changes found_job have o));
+      given_up = λ o.
+          let one = gives_up_through n servers (tables_at catalog tables) no_changes found_job have o in
+          let p = gives_up found_job o in
+          through_more 3 n false (open_at no_changes) p.0 p.1 (stores_of catalog tables) RolledBack o
+          (through_more 2 n false (open_at no_changes) p.0 p.1 (stores_of catalog tables) RolledBack o (through_more 1 n false (open_at no_changes) p.0 p.1 (stores_of catalog tables) RolledBack o one));
+      begun = λ last h o through.
+          finds_through 4 n servers (tables_at catalog tables) job (map rows_at asked) last h o apart some_branches few_open scans (shaped_rows asked) (length-map asked rows_at) some_asked few_asked through;
+      stays = λ h. cc;
+    }
+
+    -- the new rows are put and committed
+    written_with : mode_of s ≡ Exclusive → (o : Outcome)
+        → Through 4 n false (open_at no_changes) (writes_by found_job o (puts_of asked (map (placed table.def table.rule) (rows_added table.def s))))
+        (stores_of catalog (with_rows tables number (put_all table.def (tables number) (rows_added table.def s)))) Committed o
+    written_with exclusive o =
+        let news = map (placed table.def table.rule) (rows_added table.def s) in
+        let left = put_all table.def (tables number) (rows_added table.def s) in
+        let puts : Served n (open_at no_changes) (puts_of asked news) (put_answers asked news) (open_at (puts_at asked news)) =
+        subst (λ h. Served n (stores_as servers (tables_at catalog tables) h) (puts_of asked news) (put_answers asked news) (open_at (puts_at asked news))) (sym (same_held n branches Active no_changes))
+        (subst (λ h. Served n (stores_as servers (tables_at catalog tables) (holding n branches Active no_changes)) (puts_of asked news) (put_answers asked news) (stores_as servers (tables_at catalog tables) h))
+        (sym (same_held n branches Active (puts_at asked news))) (statement_puts catalog tables n tx number table s served held is passes)) in
+        let few = few_puts asked news in
+        let few_now = few_asked in
+        writes_through 3 n (open_at no_changes) found_job o (puts_of asked news) (put_answers asked news) (open_at (puts_at asked news)) (stores_of catalog (with_rows tables number left)) Committed o puts
+        (done_all (put_answers asked news) (statement_puts_done catalog tables n tx number table s served held is passes)) (omega (arith, few, few_now))
+        (subst (λ last. Through 3 n false (open_at (puts_at asked news)) (ends found_job o) last Committed o)
+        (puts_left catalog tx asked news (tables_at catalog tables) (tables_at catalog (with_rows tables number left)) (λ server below. statement_commits catalog tables n tx number table s served held is passes server exclusive))
+        (ends_through n servers (tables_at catalog tables) (puts_at asked news) found_job have o))
+
+  -- WITHOUT BRANCHES
+
+  module _ (none : asked ≡ []) where
+    no_branch : branches ≡ []
+    no_branch = ap (branches_of catalog tx) none ∙ nothing_open catalog tx
+
+    no_part : parts_asked table.def table.rule s ≡ []
+    no_part =
+        no_parts (kept_in table.def table.rule (tables number) (pushed table.def s)) (parts_asked table.def table.rule s)
+        (ap (λ ts. flat_map (λ (t : Target). rows_if t.counts (kept_in table.def table.rule (tables number) (pushed table.def s) t.part)) ts) (sym none)
+        ∙ statement_counts catalog tables n tx number table s served held is passes (kept_in table.def table.rule (tables number) (pushed table.def s)))
+
+    alone : Ways catalog tables n tx number table s sound (held number table named.at).rows_of passes (singles test) (singles_are test) pruned job (stores_of catalog tables) Alone
+    alone = record {
+      deed_is = refl;
+      targets_are = refl;
+      place_is = refl;
+      found_is = ap (map (kept_in table.def table.rule (tables number) (pushed table.def s))) (sym no_part);
+      ended = λ o. ends_alone 4 n (stores_of catalog tables) job o no_branch;
+      given_up = λ o. gives_up_alone 4 n (stores_of catalog tables) job o no_branch;
+      begun = λ last h o through.
+          let p = concluded job in
+          subst (λ (x : Job × Progress). Through 6 n false (stores_of catalog tables) x last h o) (sym (begins_alone job no_branch))
+          (through_more 5 n false (stores_of catalog tables) p.0 p.1 last h o (through_more 4 n false (stores_of catalog tables) p.0 p.1 last h o through));
+      stays = λ h. cc;
+    }
+
+    none_added : rows_added table.def s ≡ []
+    none_added =
+        no_rows_added (rows_added table.def s) (λ row c.
+        let may = new_rows_may_be catalog tables n tx number table s served held is passes in
+        let place = placed_somewhere (part table.rule (key_of table.def row)) (all_of (λ r. IsSome (part table.rule (key_of table.def r))) (rows_added table.def s) row may.placed c) in
+        never_asked place.0 (row_is_asked table.def table.rule s row place.0 c (all_of (HasKey table.def) (rows_added table.def s) row may.keyed c) (lies_here table.def table.rule row place.0 place.1)))
+      where
+        placed_somewhere : (o : Option ℕ) → IsSome o → (p : ℕ) × (o ≡ Some p)
+        placed_somewhere None h = absurd (cc)
+        placed_somewhere (Some p) h = (p, refl)
+
+        lies_here : (def : TableDef) (rule : Rule) (row : Row) (p : ℕ) → part rule (key_of def row) ≡ Some p → lies_in def rule p row ≡ true
+        lies_here def rule row p at = ap (λ (o : Option ℕ). option_map_or (λ q. q == p) o false) at ∙ is_itself p
+
+        never_asked : (p : ℕ) → owns table.rule test p ≡ true → ⊥
+        never_asked p own = nothing p (subst (λ l. Contains l p) no_part (asked_there table.rule test p (served.tables number table named.at).rule own))
+
+    written_alone : (o : Outcome)
+        → Through 4 n false (stores_of catalog tables) (writes_by job o (puts_of asked (map (placed table.def table.rule) (rows_added table.def s))))
+        (stores_of catalog (with_rows tables number (put_all table.def (tables number) (rows_added table.def s)))) Alone o
+    written_alone o =
+        let news = map (placed table.def table.rule) (rows_added table.def s) in
+        subst (λ (ts : List Target). Through 4 n false (stores_of catalog tables) (writes_by job o (puts_of ts news)) (stores_of catalog (with_rows tables number (put_all table.def (tables number) (rows_added table.def s)))) Alone o) (sym none)
+        (subst (λ (added : List Row). Through 4 n false (stores_of catalog tables) (ends job o) (stores_of catalog (with_rows tables number (put_all table.def (tables number) added))) Alone o) (sym none_added)
+        (subst (λ (left : List Row). Through 4 n false (stores_of catalog tables) (ends job o) (stores_of catalog (with_rows tables number left)) Alone o) (sym (nothing_put table.def (tables number)))
+        (subst (λ (ts : Tables). Through 4 n false (stores_of catalog tables) (ends job o) (stores_of catalog ts) Alone o) (sym (same_rows tables number)) (ends_alone 4 n (stores_of catalog tables) job o no_branch))))
+
+  -- BY THE LINKS THAT ARE ASKED
+
+  -- the job whose scans were answered, or which has none, and the ways from there
+  pub record Comes : Type 0 where
+    pub job_there : Job
+    pub stores : List Store
+    pub how : Ending
+    pub ways : Ways catalog tables n tx number table s sound (held number table named.at).rows_of passes (singles test) (singles_are test) pruned job_there stores how
+    pub written : mode_of s ≡ Exclusive → (o : Outcome)
+        → Through 4 n false stores (writes_by job_there o (puts_of asked (map (placed table.def table.rule) (rows_added table.def s))))
+        (stores_of catalog (with_rows tables number (put_all table.def (tables number) (rows_added table.def s)))) how o
+
+  comes_by : (links : List Target) → asked ≡ links → Comes
+  comes_by [] none = record { job_there = job; stores = stores_of catalog tables; how = Alone; ways = alone none; written = λ exclusive o. written_alone none o }
+  comes_by (first ∷ rest) some = record { job_there = found_job; stores = open_at no_changes; how = Committed; ways = with_branches first rest some; written = λ exclusive o. written_with first rest some exclusive o }
+
+  pub comes : Comes
+  comes = comes_by asked refl
+
+-- a SELECT
+select_through : (catalog : View) (tables : Tables) (n : ℕ) (tx : TxNo) (number : ℕ) (table : Table) (select : Select) → CanBeServed catalog → AreHeld catalog tables
+    → table_named catalog.tables (table_of (statement.Select select)) ≡ Some (number, table) → refusal table.def table.rule (statement.Select select) ≡ None
+    → GoesThrough catalog tables n tx number table (statement.Select select)
+select_through catalog tables n tx number table select served held is passes =
+    let s = statement.Select select in
+    let here = comes catalog tables n tx number table s served held is passes in
+    let def = table.def in
+    select_goes catalog tables n tx number table s (sound catalog tables n tx number table s served held is passes) (held number table (named catalog tables n tx number table s served held is passes).at).rows_of passes (singles (keeps_key def (pushed def s))) (singles_are (keeps_key def (pushed def s)))
+    (pruned catalog tables n tx number table s served held is passes)
+    (record { table = known_name select.tab; picks = picks_of (known_as def select.tab) select.items }) refl
+    (filter_agree (holds_on (known_as def select.tab) select.cond) (holds_on def (option_map unqualified select.cond)) (λ row. where_same def select row select.cond refl (passes_known def table.rule s passes)) (tables number))
+    here.job_there here.stores here.how here.ways
+  where
+    passes_known : (def : TableDef) (rule : Rule) (t : Statement) → refusal def rule t ≡ None → no_column def t ≡ None
+    passes_known def rule t none = (rule_passes def rule t none).known
+
+-- an INSERT
+insert_through : (catalog : View) (tables : Tables) (n : ℕ) (tx : TxNo) (number : ℕ) (table : Table) (insert : Insert) → CanBeServed catalog → AreHeld catalog tables
+    → table_named catalog.tables (table_of (statement.Insert insert)) ≡ Some (number, table) → refusal table.def table.rule (statement.Insert insert) ≡ None
+    → GoesThrough catalog tables n tx number table (statement.Insert insert)
+insert_through catalog tables n tx number table insert served held is passes =
+    let s = statement.Insert insert in
+    let here = comes catalog tables n tx number table s served held is passes in
+    let def = table.def in
+    insert_goes catalog tables n tx number table s (sound catalog tables n tx number table s served held is passes) (held number table (named catalog tables n tx number table s served held is passes).at).rows_of passes (singles (keeps_key def (pushed def s))) (singles_are (keeps_key def (pushed def s)))
+    (pruned catalog tables n tx number table s served held is passes)
+    (rows_of def insert.columns insert.rows) refl refl here.job_there here.stores here.how here.ways (λ o free. here.written refl o)
+
+-- every statement
+pub statements_go_through : StatementsGoThrough
+statements_go_through catalog tables n tx number table (statement.Select select) served held is passes = select_through catalog tables n tx number table select served held is passes
+statements_go_through catalog tables n tx number table (statement.Insert insert) served held is passes = insert_through catalog tables n tx number table insert served held is passes

@@ -1,0 +1,165 @@
+-- A statement that breaks no rule, over stores that hold the plain tables: its scans, its puts, and what their commit leaves.
+use Rattle.std.proofs.Common.{◌≡◌, ℕ, ◌≤◌, nat_le, Bool, true, false, List, [], ◌∷◌, map, filter, flat_map, Option, Some, None, refl, arith, sym, ◌∙◌, ap, subst, inl, inr, cond, length}
+use Rattle.std.specs.Prelude.{slice_get, option_and_then, if◌then◌else◌}
+use Rattle.std.specs.List.{AllByRecursion, Contains, list_all, list_any, range_with_len}
+use Rattle.std.proofs.lemmas.Bool.{false≢true, and_parts}
+use Rattle.std.proofs.lemmas.Bool.Decides.{nat_tests}
+use Rattle.std.proofs.lemmas.Option.{same_Some}
+use Rattle.sql_values.specs.declared.places.LockMode.TheVariants.{Exclusive}
+use Rattle.sql_values.specs.declared.value.Value.{Value}
+use Rattle.part_rules.specs.Placing.{part_count}
+use Rattle.catalog.specs.declared.link.Link.{Link}
+use Rattle.catalog.specs.declared.tables.Table.{Table}
+use Rattle.catalog.specs.Index.{place_in}
+use Rattle.catalog.specs.Links.{is_ok}
+use Rattle.catalog.specs.Views.{View, table_name}
+use Rattle.catalog.specs.Views.{IsTable as IsConfigured}
+use Rattle.catalog_plan.specs.Plans.{table_of}
+use Rattle.sql_text.specs.declared.statement.Statement.{Statement}
+use Rattle.stmt_plan.specs.Apart.{are_apart, has_number_key}
+use Rattle.stmt_plan.specs.Plans.{IsTable, mode_of, keeps_key}
+use Rattle.stmt_plan.specs.Refusals.{refusal}
+use Rattle.stmt_plan.proofs.Apart.{IsTable-from_tests}
+use Rattle.plain_tables.specs.Inserts.{put_all, AreRows}
+use Rattle.plain_tables.proofs.Members.{at_front, nothing, either}
+use Rattle.branch_store.specs.declared.branch.Stage.TheVariants.{Active}
+use Rattle.branch_store.specs.Opening.{is_definition}
+use Rattle.branch_store.specs.Sound.{IsRow}
+use Rattle.branch_store.specs.Store.{changed_table}
+use Rattle.branch_store.proofs.Sounds.{both_of}
+use Rattle.txn_phases.specs.declared.deed.PlacedRow.{PlacedRow}
+use Rattle.txn_phases.specs.declared.phase.Target.{Target}
+use Rattle.txn_phases.specs.Phases.{scans_of, puts_of, rows_if}
+use Rattle.front_core.proofs.Named.{is_definition as tested_definition}
+use Rattle.front_core.specs.declared.event.TxNo.{TxNo}
+use Rattle.front_core.specs.Asked.{pushed, parts_asked, parts_with, owns}
+use Rattle.front_core.specs.Core.{is_table, table_at, table_named}
+use Rattle.front_core.specs.Jobs.{branches_of, scan_for, placed, targets_for, targets_of}
+use Rattle.plain_sessions.specs.Exec.{Tables, rows_added, with_rows}
+use Rattle.plain_sessions.specs.Held.{CanBeServed, tables_at}
+use Rattle.phase_law.specs.Laws.{AreHeld}
+use Rattle.phase_law.proofs.AskedParts.{others_have_none}
+use Rattle.phase_law.proofs.Commits.{commit_leaves}
+use Rattle.phase_law.proofs.Fits.{scan_fits, pushed_keeps}
+use Rattle.phase_law.proofs.Lists.{slice_get_there, into_map}
+use Rattle.phase_law.proofs.Places.{Place, def_there, places_at, defs_by_place, link_is_placed}
+use Rattle.phase_law.proofs.Puts.{IsDone, put_answers, puts_are_done, puts_are_served, placed_have}
+use Rattle.phase_law.proofs.RowsFit.{rows_are_rows, rows_may_be_inserted}
+use Rattle.phase_law.proofs.Scans.{scanned, scans_are_served}
+use Rattle.phase_law.proofs.Stages.{stores_as, holding, no_changes, puts_at, Served}
+use Rattle.phase_law.proofs.Targets.{IsLink, targets_are_links, counting_rows, parts_have_links, links_tests}
+
+-- THE TABLE
+
+-- the table that a name finds stands at its number, and its columns' names differ
+pub record IsNamed (catalog : View) (number : ℕ) (table : Table) : Type 0 where
+  pub at : slice_get catalog.tables number ≡ Some table
+  pub test : is_table table.def ≡ true
+
+found_by : (b : Bool) (number n : ℕ) (table t : Table) → cond {A = Option (ℕ × Table)} b (Some (n, t)) None ≡ Some (number, table) → (b ≡ true) × (n ≡ number) × (t ≡ table)
+found_by true number n table t is =
+    let pair : Some (n, t) ≡ Some (number, table) = is in
+    let same = same_Some (n, t) (number, table) pair in
+    (refl, ap (λ (q : ℕ × Table). q.0) same, ap (λ (q : ℕ × Table). q.1) same)
+found_by false number n table t is = absurd (let no : None ≡ Some (number, table) = is in cc)
+
+table_by : (catalog : View) (number n : ℕ) (table : Table) (o : Option Table) → slice_get catalog.tables n ≡ o
+    → option_and_then {U = ℕ × Table} (λ (t : Table). if is_table t.def then Some (n, t) else None) o ≡ Some (number, table) → IsNamed catalog number table
+table_by catalog number n table None at is = absurd (let no : None ≡ Some (number, table) = is in cc)
+table_by catalog number n table (Some t) at is =
+    let found = found_by (is_table t.def) number n table t is in
+    record { at = ap (slice_get catalog.tables) (sym found.1) ∙ (at ∙ ap (λ (u : Table). Some u) found.2); test = ap (λ (u : Table). is_table u.def) (sym found.2) ∙ found.0 }
+
+named_by : (catalog : View) (number : ℕ) (table : Table) (o : Option ℕ) → option_and_then (table_at catalog.tables) o ≡ Some (number, table) → IsNamed catalog number table
+named_by catalog number table None is = absurd (let no : None ≡ Some (number, table) = is in cc)
+named_by catalog number table (Some n) is = table_by catalog number n table (slice_get catalog.tables n) refl is
+
+pub table_is_named : (catalog : View) (name : List ℕ) (number : ℕ) (table : Table) → table_named catalog.tables name ≡ Some (number, table) → IsNamed catalog number table
+table_is_named catalog name number table is = named_by catalog number table (place_in (map table_name catalog.tables) name) is
+
+each_is : {X : Type 0} (p : X → Bool) (xs : List X) (x : X) → list_all p xs ≡ true → Contains xs x → p x ≡ true
+each_is p [] x all c = nothing x c
+each_is p (y ∷ xs) x all c =
+    let both = and_parts (p y) (list_all p xs) all in
+    elim (either y x xs c) [
+      | inl same ↦ ap p (sym same) ∙ both.0
+      | inr later ↦ each_is p xs x both.1 later
+    ]
+
+some_link : (links : List Link) → list_any (λ (l : Link). is_ok l.first) links ≡ true → (l : Link) × Contains links l
+some_link [] any = absurd (false≢true any)
+some_link (l ∷ links) any = (l, at_front l links)
+
+-- a table of the configuration is one that a backend can have: each of its links' tables is
+pub table_is_small : (catalog : View) (number : ℕ) (table : Table) → CanBeServed catalog → slice_get catalog.tables number ≡ Some table → is_definition table.def ≡ true
+table_is_small catalog number table served at =
+    let made : IsConfigured (length catalog.servers) table = served.tables number table at in
+    let some_part : 1 ≤ part_count table.rule = made.rule.0 in
+    let first = slice_get_there table.parts 0 (omega (arith, made.parts, some_part)) in
+    let link = some_link first.0.links (links_tests (length catalog.servers) first.0.links (made.links 0 first.0 first.1)).0 in
+    let place : Place = record { number = number; table = table; part = 0; link = link.0 } in
+    let there : Contains (places_at catalog link.0.server) place = link_is_placed catalog number table 0 first.0 link.0 at first.1 link.1 in
+    let all : list_all is_definition (map def_there (places_at catalog link.0.server)) ≡ true =
+    subst (λ defs. list_all is_definition defs ≡ true) (defs_by_place catalog link.0.server) (both_of _ _ (served.held link.0.server)).1 in
+    each_is is_definition (map def_there (places_at catalog link.0.server)) (def_there place) all (into_map def_there (places_at catalog link.0.server) place there)
+
+pub table_is_sound : (catalog : View) (number : ℕ) (table : Table) → CanBeServed catalog → IsNamed catalog number table → IsTable table.def
+table_is_sound catalog number table served is = tested_definition table.def is.test
+
+-- WHAT IS SENT
+
+module _ (catalog : View) (tables : Tables) (n : ℕ) (tx : TxNo) (number : ℕ) (table : Table) (s : Statement) (served : CanBeServed catalog) (held : AreHeld catalog tables)
+    (is : table_named catalog.tables (table_of s) ≡ Some (number, table)) (passes : refusal table.def table.rule s ≡ None) where
+  named : IsNamed catalog number table
+  named = table_is_named catalog (table_of s) number table is
+
+  sound : IsTable table.def
+  sound = table_is_sound catalog number table served named
+
+  abbrev asked : List Target
+  asked = targets_for table s
+
+  abbrev news : List PlacedRow
+  news = map (placed table.def table.rule) (rows_added table.def s)
+
+  pub asked_links : (t : Target) → Contains asked t → IsLink table.parts t
+  asked_links t c = targets_are_links (mode_of s) table.parts (parts_asked table.def table.rule s) t c
+
+  -- the scans are answered by what the condition keeps of each partition
+  pub statement_scans : Served n (stores_as (length catalog.servers) (tables_at catalog tables) (holding n (branches_of catalog tx asked) Active no_changes)) (scans_of (scan_for table.def s) asked)
+      (map (scanned table tables number (scan_for table.def s)) asked) (stores_as (length catalog.servers) (tables_at catalog tables) (holding n (branches_of catalog tx asked) Active no_changes))
+  statement_scans =
+      scans_are_served catalog tables tx n number table asked (scan_for table.def s) served named.at asked_links (λ t c. scan_fits table s t sound passes) (λ t c. pushed_keeps table s t sound passes)
+
+  -- of each partition that is asked the rows of one link count, in the order of the partitions
+  pub statement_counts : (f : ℕ → List (List Value)) → flat_map (λ (t : Target). rows_if t.counts (f t.part)) asked ≡ map f (parts_asked table.def table.rule s)
+  statement_counts f =
+      counting_rows (length catalog.servers) (mode_of s) table.parts (parts_asked table.def table.rule s) f (λ p c. parts_have_links (length catalog.servers) table s p (served.tables number table named.at) c)
+
+  pub new_rows_fit : AllByRecursion (IsRow table.def) (rows_added table.def s)
+  new_rows_fit = rows_are_rows table.def table.rule s sound passes
+
+  pub new_rows_may_be : AreRows table.def table.rule (rows_added table.def s)
+  new_rows_may_be = rows_may_be_inserted table.def table.rule s sound (table_is_small catalog number table served named.at) passes
+
+  -- the puts are done
+  pub statement_puts : Served n (stores_as (length catalog.servers) (tables_at catalog tables) (holding n (branches_of catalog tx asked) Active no_changes)) (puts_of asked news) (put_answers asked news)
+      (stores_as (length catalog.servers) (tables_at catalog tables) (holding n (branches_of catalog tx asked) Active (puts_at asked news)))
+  statement_puts =
+      puts_are_served catalog tables tx n number table asked news served named.at asked_links (placed_have (IsRow table.def) table.def table.rule (rows_added table.def s) new_rows_fit)
+
+  pub statement_puts_done : AllByRecursion IsDone (put_answers asked news)
+  statement_puts_done = puts_are_done asked news
+
+  -- and where all links were asked, their commit leaves the plain tables with the rows put
+  pub statement_commits : (server : ℕ) → mode_of s ≡ Exclusive → map (changed_table (puts_at asked news server)) (tables_at catalog tables server)
+      ≡ tables_at catalog (with_rows tables number (put_all table.def (tables number) (rows_added table.def s))) server
+  unfolding parts_with
+  statement_commits server exclusive =
+      let test : ℕ → Bool = owns table.rule (keeps_key table.def (pushed table.def s)) in
+      let parts_are : length table.parts ≡ part_count table.rule = (served.tables number table named.at).parts in
+      let targets : asked ≡ targets_of Exclusive table.parts (filter test (range_with_len 0 (length table.parts))) =
+      ap (λ m. targets_of m table.parts (parts_asked table.def table.rule s)) exclusive ∙ ap (λ k. targets_of Exclusive table.parts (filter test (range_with_len 0 k))) (sym parts_are) in
+      ap (λ ts. map (changed_table (puts_at ts news server)) (tables_at catalog tables server)) targets
+      ∙ commit_leaves catalog tables number table (rows_added table.def s) named.at (held number table named.at).rows_of new_rows_may_be server test served
+      (λ p out. others_have_none table.def table.rule s p new_rows_may_be out)

@@ -1,0 +1,110 @@
+-- What a statement's text answers on the plain tables, and what it leaves.
+use Rattle.std.specs.Prelude.{ℕ, ◌==◌, Bool, not, ◌||◌, List, [], ◌∷◌, Option, Some, None, Result, Ok, Err, map, codes, if◌then◌else◌}
+use Rattle.std.specs.Fmt.{signed_decimal}
+use Rattle.sql_values.specs.declared.literal.Literal.{Literal}
+use Rattle.sql_values.specs.declared.literal.Literal.TheVariants as literal
+use Rattle.sql_values.specs.declared.table.TableDef.{TableDef}
+use Rattle.catalog.specs.declared.tables.Table.{Table}
+use Rattle.catalog.specs.Views.{View}
+use Rattle.catalog_plan.specs.Plans.{table_of}
+use Rattle.sql_text.specs.declared.fault.ParseFault.{ParseFault}
+use Rattle.sql_text.specs.declared.statement.Statement.{Statement}
+use Rattle.sql_text.specs.declared.statement.Statement.TheVariants as statement
+use Rattle.sql_text.specs.Parsing.{parsed}
+use Rattle.stmt_plan.specs.declared.planned.Work.{Work}
+use Rattle.stmt_plan.specs.declared.planned.Work.TheVariants as work
+use Rattle.stmt_plan.specs.Inserts.{rows_of}
+use Rattle.stmt_plan.specs.Plans.{work_of}
+use Rattle.stmt_plan.specs.Selects.{known_as}
+use Rattle.front_rows.specs.Merging.{is_too_large}
+use Rattle.plain_tables.specs.Rows.{Row, kept}
+use Rattle.plain_tables.specs.Statements.{Answer, Refused, Duplicate, Done, Found, executed}
+use Rattle.txn_phases.specs.declared.deed.Outcome.TheVariants as outcome
+use Rattle.txn_phases.specs.Deeds.{writes_too_much}
+use Rattle.my_messages.specs.declared.reply.Column.{Column}
+use Rattle.my_messages.specs.declared.reply.Reply.{Reply}
+use Rattle.my_messages.specs.declared.reply.Reply.TheVariants as reply
+use Rattle.sql_replies.specs.Errors.{ok_reply, duplicate_reply, limit_reply, no_table_reply, parse_reply, plan_reply}
+use Rattle.sql_replies.specs.Results.{column_of}
+use Rattle.front_core.specs.Core.{is_showable, table_named}
+use Rattle.front_core.specs.Jobs.{picks_by, placed, targets_for}
+
+-- the rows of each table, by its number
+abbrev pub Tables : Type 0
+Tables = ℕ → List Row
+
+abbrev pub no_rows : Tables
+no_rows number = []
+
+-- the tables with these rows in one
+abbrev pub with_rows : Tables → ℕ → List Row → Tables
+with_rows tables number rows n = if n == number then rows else tables n
+
+-- ANSWERS
+
+-- the text of a cell; NULL has none
+abbrev pub cell_text : Literal → Option (List ℕ)
+cell_text (literal.Number n) = Some (signed_decimal n)
+cell_text (literal.Text t) = Some t
+cell_text literal.Null = None
+
+-- the columns of the answer
+abbrev pub columns_by : TableDef → Work → List Column
+columns_by def (work.Insert rows) = []
+columns_by def (work.Select picks) = map (column_of def picks.table) picks.picks
+
+-- what a client is told of an answer
+abbrev pub reply_to : TableDef → Work → Answer → Reply
+reply_to def w (Refused fault) = plan_reply fault
+reply_to def w (Duplicate key) = duplicate_reply key
+reply_to def w (Done count) = ok_reply count
+reply_to def w (Found cells) = reply.Rows (columns_by def w) (map (λ row. map cell_text row) cells) 2
+
+-- LIMITS
+
+-- the rows that a statement finds for its answer, whole
+abbrev pub rows_found : TableDef → Statement → List Row → List Row
+rows_found def (statement.Insert insert) rows = []
+rows_found def (statement.Select select) rows = kept (known_as def select.tab) select.cond rows
+
+-- the rows that it adds
+abbrev pub rows_added : TableDef → Statement → List Row
+rows_added def (statement.Insert insert) = rows_of def insert.columns insert.rows
+rows_added def (statement.Select select) = []
+
+-- the answer has more rows, or more bytes of them, than it may have, or no packets can hold it
+abbrev pub is_large : TableDef → Statement → List Row → Bool
+is_large def s found = is_too_large found || not (is_showable (picks_by (work_of def s)) (outcome.Found found))
+
+-- the limit that an answer passes: that of answers, or that of what is written at a server
+abbrev pub limit_passed : Table → Statement → List Row → Answer → Option (List ℕ)
+limit_passed table s rows (Refused fault) = None
+limit_passed table s rows (Duplicate key) = None
+limit_passed table s rows (Done count) = if writes_too_much (targets_for table s) (map (placed table.def table.rule) (rows_added table.def s)) then Some (codes "write set") else None
+limit_passed table s rows (Found cells) = if is_large table.def s (rows_found table.def s rows) then Some (codes "answer") else None
+
+-- STATEMENTS
+
+-- a statement that passes a limit changes nothing
+abbrev pub within_limit : TableDef → Work → List Row → Answer × List Row → Option (List ℕ) → Reply × List Row
+within_limit def w rows e (Some limit) = (limit_reply limit, rows)
+within_limit def w rows e None = (reply_to def w e.0, e.1)
+
+-- what a statement on a table answers, and the rows that it leaves there
+abbrev pub exec_on : Table → Statement → List Row → Reply × List Row
+exec_on table s rows = let e = executed table.def table.rule s rows in within_limit table.def (work_of table.def s) rows e (limit_passed table s rows e.0)
+
+abbrev pub on_table : Tables → ℕ → Reply × List Row → Reply × Tables
+on_table tables number e = (e.0, with_rows tables number e.1)
+
+abbrev pub exec_at : Tables → Statement → Option (ℕ × Table) → Reply × Tables
+exec_at tables s None = (no_table_reply (table_of s), tables)
+exec_at tables s (Some (number, table)) = on_table tables number (exec_on table s (tables number))
+
+abbrev pub exec_by : View → Tables → Result Statement ParseFault → Reply × Tables
+exec_by catalog tables (Err fault) = (parse_reply fault, tables)
+exec_by catalog tables (Ok s) = exec_at tables s (table_named catalog.tables (table_of s))
+
+-- what a text answers, and the tables that it leaves
+unfoldable pub exec : View → List ℕ → Tables → Reply × Tables
+exec catalog text tables = exec_by catalog tables (parsed text)

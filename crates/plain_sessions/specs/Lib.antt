@@ -1,0 +1,4 @@
+pub mod Exec
+pub mod Held
+pub mod Serial
+pub mod Solo

@@ -1,0 +1,14 @@
+use Rattle.std.proofs.Common.{refl}
+use Rattle.spider_cli.specs.Top.{Play}
+use Rattle.spider_cli.proofs.Carried.{runs_on, turned_down}
+use Rattle.spider_cli.proofs.play_on.Goals as goal
+
+pub returns-in-Ok : goal.returns-in-Ok
+returns-in-Ok g c path =
+    runs_on g.I.Source.gives g.I.Source.has_ended g.I.Source.faults g.O.Sink.takes g.O.Sink.faults c.args.input.now c.play_catalog.new.input c.args.out.now c.play_catalog.new.out c.args.conf.now
+    c.in-Ok.catalog (Play path) c.play_catalog.result c.in-Ok.ensures.ok (c.play_catalog.ensures path)
+
+pub returns-in-Err : goal.returns-in-Err
+returns-in-Err g c path =
+    turned_down g.I.Source.gives g.I.Source.has_ended g.I.Source.faults g.O.Sink.takes g.O.Sink.faults c.args.input.now c.args.input.now c.args.out.now c.args.out.now c.args.conf.now
+    (Play path) c.refused.result (c.refused.ensures c.args.conf.now c.in-Err.ensures.err) refl refl

@@ -1,0 +1,7 @@
+pub mod Clients
+pub mod Given
+pub mod LineWords
+pub mod Runs
+pub mod Sessions
+pub mod Starts
+pub mod Turning

@@ -1,0 +1,5 @@
+pub mod History
+pub mod Run
+pub mod Schedule
+pub mod Transcript
+pub mod World
