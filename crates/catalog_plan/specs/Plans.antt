@@ -18,6 +18,8 @@ use Rattle.catalog_plan.specs.declared.fault.PlanFault.TheVariants.{NoTable, Sta
 abbrev pub table_of : Statement → List ℕ
 table_of (statement.Insert insert) = insert.table
 table_of (statement.Select select) = select.tab.table
+table_of (statement.Update update) = update.table
+table_of (statement.Delete delete) = delete.table
 
 -- the table of that number has the name, and its columns' names differ
 pub record IsFound (tables : List Table) (name : List ℕ) (number : ℕ) (table : Table) : Type 0 where

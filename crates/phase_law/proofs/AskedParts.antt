@@ -20,9 +20,8 @@ use Rattle.plain_tables.specs.Inserts.{put_all, AreRows}
 use Rattle.plain_tables.specs.Partitions.{lies_in}
 use Rattle.plain_tables.specs.Rows.{Row, key_of, HasKey}
 use Rattle.plain_tables.proofs.Members.{at_front, behind, nothing, all_of}
-use Rattle.txn_phases.specs.Deeds.{news_in}
+use Rattle.txn_phases.specs.Deeds.{news_in, placed}
 use Rattle.front_core.specs.Asked.{rising, pushed, lies_at, owns}
-use Rattle.front_core.specs.Jobs.{placed}
 use Rattle.plain_sessions.specs.Exec.{rows_added}
 use Rattle.front_core.proofs.Rising.{rising_rises}
 use Rattle.front_core.proofs.Parting.{some_bigint}

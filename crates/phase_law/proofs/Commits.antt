@@ -38,8 +38,8 @@ use Rattle.branch_store.specs.Tables as stored
 use Rattle.branch_store.proofs.Keyed.{inserted, inserted_keyed}
 use Rattle.txn_phases.specs.declared.deed.PlacedRow.{PlacedRow}
 use Rattle.txn_phases.specs.declared.phase.Target.{Target}
-use Rattle.txn_phases.specs.Deeds.{news_at, news_in, put_by_key}
-use Rattle.front_core.specs.Jobs.{is_ng, written, links_at, target_at, part_targets, targets_of, placed}
+use Rattle.txn_phases.specs.Deeds.{news_at, news_in, placed, put_by_key}
+use Rattle.front_core.specs.Jobs.{is_ng, written, links_at, target_at, part_targets, targets_of}
 use Rattle.plain_sessions.specs.Exec.{Tables, with_rows}
 use Rattle.plain_sessions.specs.Held.{CanBeServed, rows_by, tables_at}
 use Rattle.phase_law.proofs.Lists.{is_itself, is_same, is_other, flat_filter}

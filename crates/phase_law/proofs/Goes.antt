@@ -34,6 +34,7 @@ use Rattle.plain_tables.specs.Rows.{HasKey, Row, holds_on, kept, key_of}
 use Rattle.plain_tables.specs.Partitions.{lies_in, rows_in}
 use Rattle.plain_tables.proofs.Members.{all_of, all_by, at_front, behind, kept_passes, nothing, passes_kept}
 use Rattle.std.proofs.lemmas.List.Elements.{filter_agree}
+use Rattle.txn_phases.specs.Deeds.{placed}
 use Rattle.branch_store.specs.declared.branch.Change.{Change}
 use Rattle.branch_store.specs.declared.branch.Stage.TheVariants.{Active}
 use Rattle.branch_store.specs.Sound.{IsRow}
@@ -52,7 +53,7 @@ use Rattle.txn_phases.specs.Phases.{begins, concluded, ends, gives_up, is_begun,
 use Rattle.front_core.specs.declared.event.TxNo.{TxNo}
 use Rattle.front_core.specs.Asked.{bigints, owns, parts_asked, parts_with, pushed}
 use Rattle.front_core.specs.Core.{table_named}
-use Rattle.front_core.specs.Jobs.{branch_at, branches_of, job_of, kinds_of, placed, scan_for, targets_for}
+use Rattle.front_core.specs.Jobs.{branch_at, branches_of, job_of, kinds_of, scan_for, targets_for}
 use Rattle.front_core.proofs.Parting.{some_bigint, bigint_some, bigint_fits, asked_there, are_pruned}
 use Rattle.plain_sessions.specs.Exec.{Tables, rows_added, rows_found, with_rows}
 use Rattle.plain_sessions.specs.Held.{CanBeServed, stores_of, tables_at}

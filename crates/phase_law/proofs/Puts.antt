@@ -30,10 +30,10 @@ use Rattle.branch_store.specs.Store.{Store, store_step, working, unless_fault, w
 use Rattle.branch_store.specs.Tables as stored
 use Rattle.txn_phases.specs.declared.deed.PlacedRow.{PlacedRow}
 use Rattle.txn_phases.specs.declared.phase.Target.{Target}
-use Rattle.txn_phases.specs.Deeds.{news_at, news_in, put_by_key}
+use Rattle.txn_phases.specs.Deeds.{news_at, news_in, placed, put_by_key}
 use Rattle.txn_phases.specs.Phases.{puts_of, put_of}
 use Rattle.front_core.specs.declared.event.TxNo.{TxNo}
-use Rattle.front_core.specs.Jobs.{branches_of, xid_at, placed}
+use Rattle.front_core.specs.Jobs.{branches_of, xid_at}
 use Rattle.plain_sessions.specs.Exec.{Tables}
 use Rattle.plain_sessions.specs.Held.{CanBeServed, tables_at}
 use Rattle.phase_law.proofs.Lists.{is_itself, is_other}

@@ -22,6 +22,7 @@ use Rattle.stmt_plan.specs.Refusals.{refusal}
 use Rattle.stmt_plan.proofs.Apart.{IsTable-from_tests}
 use Rattle.plain_tables.specs.Inserts.{put_all, AreRows}
 use Rattle.plain_tables.proofs.Members.{at_front, nothing, either}
+use Rattle.txn_phases.specs.Deeds.{placed}
 use Rattle.branch_store.specs.declared.branch.Stage.TheVariants.{Active}
 use Rattle.branch_store.specs.Opening.{is_definition}
 use Rattle.branch_store.specs.Sound.{IsRow}
@@ -34,7 +35,7 @@ use Rattle.front_core.proofs.Named.{is_definition as tested_definition}
 use Rattle.front_core.specs.declared.event.TxNo.{TxNo}
 use Rattle.front_core.specs.Asked.{pushed, parts_asked, parts_with, owns}
 use Rattle.front_core.specs.Core.{is_table, table_at, table_named}
-use Rattle.front_core.specs.Jobs.{branches_of, scan_for, placed, targets_for, targets_of}
+use Rattle.front_core.specs.Jobs.{branches_of, scan_for, targets_for, targets_of}
 use Rattle.plain_sessions.specs.Exec.{Tables, rows_added, with_rows}
 use Rattle.plain_sessions.specs.Held.{CanBeServed, tables_at}
 use Rattle.phase_law.specs.Laws.{AreHeld}

@@ -62,14 +62,14 @@ use Rattle.txn_phases.specs.declared.phase.Ending.{Ending}
 use Rattle.txn_phases.specs.declared.phase.Ending.TheVariants.{RolledBack}
 use Rattle.txn_phases.specs.declared.phase.Progress.{Progress}
 use Rattle.txn_phases.specs.declared.phase.Target.{Target}
-use Rattle.txn_phases.specs.Deeds.{all_rows, is_found, key_order, merged, merged_within, taken_key, writes_too_much}
-use Rattle.txn_phases.specs.Phases.{begins, concluded, concluded_by, ends, gives_up, inserting_by, inserts, puts_of, selects, writes_by}
+use Rattle.txn_phases.specs.Deeds.{all_rows, is_found, key_order, merged, merged_within, placed, taken_key, writes_too_much}
+use Rattle.txn_phases.specs.Phases.{begins, concluded, concluded_by, ends, gives_up, inserting_by, writes, puts_of, selects, writes_by}
 use Rattle.txn_phases.specs.Sorting.{insert_by, sorted_by}
 use Rattle.front_rows.specs.Comparing.{before}
 use Rattle.front_core.specs.declared.event.TxNo.{TxNo}
 use Rattle.front_core.specs.Asked.{pushed, parts_asked, rising}
 use Rattle.front_core.specs.Core.{is_showable, outcome_told}
-use Rattle.front_core.specs.Jobs.{deed_by, job_of, picks_by, placed, targets_for}
+use Rattle.front_core.specs.Jobs.{deed_by, job_of, picks_by, targets_for}
 use Rattle.front_core.proofs.Rising.{rising_rises}
 use Rattle.plain_sessions.specs.Exec.{Tables, cell_text, exec_on, is_large, limit_passed, reply_to, rows_added, rows_found, with_rows, within_limit}
 use Rattle.plain_sessions.specs.Held.{stores_of}
@@ -321,13 +321,13 @@ module _ (catalog : View) (tables : Tables) (n : ℕ) (tx : TxNo) (number : ℕ)
         ap (first_taken (is_found table.def.key parts_found)) (placed_keys table.def table.rule added)
         ∙ same_taken (is_found table.def.key parts_found) (has_row table.def rows_kept) (map (key_of table.def) added) (λ key there. found_keys key)
 
-    inserts_so : (j : Job) (stores : List Store) (how : Ending) → Ways j stores how → concluded j ≡ inserts j (inserting_by (targets_for table s) news taken)
+    inserts_so : (j : Job) (stores : List Store) (how : Ending) → Ways j stores how → concluded j ≡ writes j (inserting_by (targets_for table s) news taken)
     inserts_so j stores how ways =
         ap (concluded_by j) (ways.deed_is ∙ ap (deed_by table.def table.rule) w_is)
-        ∙ ap (λ k. inserts j (inserting_by j.targets news (taken_key k j.found news))) ways.place_is
-        ∙ ap (λ found. inserts j (inserting_by j.targets news (taken_key table.def.key found news))) ways.found_is
-        ∙ ap (λ ts. inserts j (inserting_by ts news (taken_key table.def.key parts_found news))) ways.targets_are
-        ∙ ap (λ o. inserts j (inserting_by (targets_for table s) news o)) taken_so
+        ∙ ap (λ k. writes j (inserting_by j.targets news (taken_key k j.found news))) ways.place_is
+        ∙ ap (λ found. writes j (inserting_by j.targets news (taken_key table.def.key found news))) ways.found_is
+        ∙ ap (λ ts. writes j (inserting_by ts news (taken_key table.def.key parts_found news))) ways.targets_are
+        ∙ ap (λ o. writes j (inserting_by (targets_for table s) news o)) taken_so
 
     told_so : (o : Outcome) (r : Reply) → outcome_told catalog None table.def o ≡ r → outcome_told catalog (picks_by (work_of table.def s)) table.def o ≡ r
     told_so o r told = ap (λ w. outcome_told catalog (picks_by w) table.def o) w_is ∙ told
@@ -346,28 +346,28 @@ module _ (catalog : View) (tables : Tables) (n : ℕ) (tx : TxNo) (number : ℕ)
         → ((o : Outcome) → taken ≡ None → Through 4 n false stores (writes_by j o (puts_of (targets_for table s) news)) (stores_of catalog (with_rows tables number left)) how o) → GoesThrough catalog tables n tx number table s
     insert_by_rows j stores how (Some key) b free much ways written =
         gives_up_goes j stores how (outcome.Duplicate key) (duplicate_reply key) ways
-        (inserts_so j stores how ways ∙ ap (λ x. inserts j (inserting_by (targets_for table s) news x)) free)
+        (inserts_so j stores how ways ∙ ap (λ x. writes j (inserting_by (targets_for table s) news x)) free)
         (exec_so (Duplicate key, tables number)
         (inserted_so ∙ ap (λ x. applied table.def (tables number) (added_by added x)) free
         ∙ ap (λ (l : List Row). let pair : Answer × List Row = (Duplicate key, l) in pair) (nothing_put table.def (tables number))))
         (told_so (outcome.Duplicate key) (duplicate_reply key) refl)
     insert_by_rows j stores how None true free much ways written =
         gives_up_goes j stores how outcome.WriteSetLimit (limit_reply (codes "write set")) ways
-        (inserts_so j stores how ways ∙ ap (λ x. inserts j (inserting_by (targets_for table s) news x)) free ∙ much_given_up j much)
+        (inserts_so j stores how ways ∙ ap (λ x. writes j (inserting_by (targets_for table s) news x)) free ∙ much_given_up j much)
         (exec_done true much free) (told_so outcome.WriteSetLimit (limit_reply (codes "write set")) refl)
       where
-        much_given_up : (j : Job) → writes_too_much (targets_for table s) news ≡ true → inserts j (inserting_by (targets_for table s) news None) ≡ gives_up j outcome.WriteSetLimit
+        much_given_up : (j : Job) → writes_too_much (targets_for table s) news ≡ true → writes j (inserting_by (targets_for table s) news None) ≡ gives_up j outcome.WriteSetLimit
         much_given_up j much = rw much refl
     insert_by_rows j stores how None false free much ways written =
-        goes_so how (outcome.Inserted (length news)) (ok_reply (length added)) left
+        goes_so how (outcome.Done (length news)) (ok_reply (length added)) left
         (exec_done false much free)
-        (ways.begun (stores_of catalog (with_rows tables number left)) how (outcome.Inserted (length news))
-        (subst (λ (x : Job × Progress). Through 4 n false stores x (stores_of catalog (with_rows tables number left)) how (outcome.Inserted (length news)))
-        (sym (inserts_so j stores how ways ∙ ap (λ x. inserts j (inserting_by (targets_for table s) news x)) free ∙ few_written j much)) (written (outcome.Inserted (length news)) free)))
-        (told_so (outcome.Inserted (length news)) (ok_reply (length added)) (ap ok_reply (length-map added (placed table.def table.rule))))
+        (ways.begun (stores_of catalog (with_rows tables number left)) how (outcome.Done (length news))
+        (subst (λ (x : Job × Progress). Through 4 n false stores x (stores_of catalog (with_rows tables number left)) how (outcome.Done (length news)))
+        (sym (inserts_so j stores how ways ∙ ap (λ x. writes j (inserting_by (targets_for table s) news x)) free ∙ few_written j much)) (written (outcome.Done (length news)) free)))
+        (told_so (outcome.Done (length news)) (ok_reply (length added)) (ap ok_reply (length-map added (placed table.def table.rule))))
         (λ h. absurd (ways.stays h))
       where
-        few_written : (j : Job) → writes_too_much (targets_for table s) news ≡ false → inserts j (inserting_by (targets_for table s) news None) ≡ writes_by j (outcome.Inserted (length news)) (puts_of (targets_for table s) news)
+        few_written : (j : Job) → writes_too_much (targets_for table s) news ≡ false → writes j (inserting_by (targets_for table s) news None) ≡ writes_by j (outcome.Done (length news)) (puts_of (targets_for table s) news)
         few_written j much = rw much refl
 
     -- an INSERT comes to its plain answer, where its rows are written on its way

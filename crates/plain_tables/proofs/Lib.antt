@@ -1,3 +1,6 @@
+pub mod Changed
+pub mod Deleted
+mod Examples
 pub mod Inserted
 pub mod Members
 pub mod Merged

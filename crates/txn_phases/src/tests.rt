@@ -100,10 +100,10 @@ fn code(progress: &Progress) -> u64 {
         Progress::Over { ending, outcome } => {
             let how = match outcome {
                 Outcome::Found(rows) => 10 + rows.len() as u64 % 10,
-                Outcome::Inserted(count) => 20 + *count % 10,
+                Outcome::Done(count) => 20 + *count % 10,
                 Outcome::Duplicate(_) => 30,
                 Outcome::Refused(_) => 40,
-                Outcome::AnswerLimit | Outcome::WriteSetLimit => 50,
+                Outcome::AnswerLimit | Outcome::WriteSetLimit | Outcome::RowRefused(_) => 50,
             };
             let end = match ending {
                 Ending::Committed => 100,
