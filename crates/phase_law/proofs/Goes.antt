@@ -1,7 +1,7 @@
 -- Every statement that breaks no rule goes through its phases to its plain answer.
-use Rattle.std.proofs.Common.{◌≡◌, ℕ, suc, ◌+◌, ◌<◌, ◌≤◌, ◌^◌, ◌++◌, ℤ, Bool, true, false, cond, List, [], ◌∷◌, map, length, Option, Some, None, refl, sym, ap, ◌∙◌, subst, arith, inl, inr}
-use Rattle.std.specs.Prelude.{◌==◌, ◌||◌, ◌&&◌, slice_get, FitsSigned, IsSome}
-use Rattle.std.specs.Option.{option_map, option_map_or}
+use Rattle.std.proofs.Common.{◌≡◌, ℕ, ◌+◌, ◌<◌, ◌≤◌, ◌^◌, ◌++◌, ℤ, Bool, true, false, cond, List, [], ◌∷◌, map, length, Some, None, refl, sym, ap, ◌∙◌, subst, arith, inl, inr, map-id}
+use Rattle.std.specs.Prelude.{◌==◌, ◌||◌, ◌&&◌, FitsSigned}
+use Rattle.std.specs.Option.{option_map}
 use Rattle.std.specs.Int.{w64}
 use Rattle.std.specs.List.{AllByRecursion, Contains, filter, flat_map, list_all, list_any, range_with_len}
 use Rattle.std.proofs.lemmas.Bool.{cases_Bool, both_ways, and_parts}
@@ -12,35 +12,32 @@ use Rattle.sql_values.specs.declared.value.Value.{Value}
 use Rattle.sql_values.specs.KeySets.{AreBigInts, AreKeys, has_key, is_within}
 use Rattle.sql_values.specs.declared.table.TableDef.{TableDef}
 use Rattle.part_rules.specs.declared.rule.Rule.{Rule}
-use Rattle.part_rules.specs.Placing.{part}
 use Rattle.part_rules.specs.Pruned.{IsPruned}
 use Rattle.catalog.specs.declared.tables.Table.{Table}
 use Rattle.catalog.specs.Views.{View}
 use Rattle.catalog_plan.specs.Plans.{table_of}
-use Rattle.sql_text.specs.declared.link.LinkAnswer.{LinkAnswer}
 use Rattle.sql_text.specs.declared.link.LinkAnswer.TheVariants as answer
 use Rattle.sql_text.specs.declared.statement.Insert.{Insert}
 use Rattle.sql_text.specs.declared.statement.Select.{Select}
 use Rattle.sql_text.specs.declared.statement.Statement.{Statement}
 use Rattle.sql_text.specs.declared.statement.Statement.TheVariants as statement
 use Rattle.sql_values.specs.declared.places.LockMode.TheVariants.{Exclusive}
-use Rattle.stmt_plan.specs.Inserts.{rows_of}
-use Rattle.stmt_plan.specs.Plans.{keeps_key, mode_of, work_of}
+use Rattle.stmt_plan.specs.Inserts.{key_name, rows_of}
+use Rattle.stmt_plan.specs.Plans.{keeps_key, mode_of}
 use Rattle.stmt_plan.specs.Plans.{IsTable as IsDefinition}
 use Rattle.stmt_plan.specs.Refusals.{refusal, no_column}
 use Rattle.stmt_plan.specs.Selects.{known_name, picks_of, known_as, unqualified}
 use Rattle.plain_tables.specs.Inserts.{put_all}
-use Rattle.plain_tables.specs.Rows.{HasKey, Row, holds_on, kept, key_of}
-use Rattle.plain_tables.specs.Partitions.{lies_in, rows_in}
-use Rattle.plain_tables.proofs.Members.{all_of, all_by, at_front, behind, kept_passes, nothing, passes_kept}
+use Rattle.plain_tables.specs.Rows.{Row, holds_on}
+use Rattle.plain_tables.specs.Partitions.{rows_in}
+use Rattle.plain_tables.proofs.Members.{all_of, all_by, at_front, behind, kept_passes, nothing}
 use Rattle.std.proofs.lemmas.List.Elements.{filter_agree}
 use Rattle.branch_store.specs.declared.branch.Change.{Change}
 use Rattle.branch_store.specs.declared.branch.Stage.TheVariants.{Active}
+use Rattle.branch_store.specs.Laws.{at_rest}
 use Rattle.branch_store.specs.Sound.{IsRow}
 use Rattle.branch_store.specs.Store.{Store, changed_table}
-use Rattle.branch_store.specs.Tables as stored
 use Rattle.txn_phases.specs.declared.deed.Outcome.{Outcome}
-use Rattle.txn_phases.specs.declared.deed.PlacedRow.{PlacedRow}
 use Rattle.txn_phases.specs.declared.job.Job.{Job}
 use Rattle.txn_phases.specs.declared.phase.Branch.{Branch}
 use Rattle.txn_phases.specs.declared.phase.Ending.{Ending}
@@ -48,36 +45,35 @@ use Rattle.txn_phases.specs.declared.phase.Ending.TheVariants.{Committed, Alone,
 use Rattle.txn_phases.specs.declared.phase.Progress.{Progress}
 use Rattle.txn_phases.specs.declared.phase.Target.{Target}
 use Rattle.txn_phases.specs.declared.requests.Ask.{Ask}
-use Rattle.txn_phases.specs.Phases.{begins, concluded, ends, gives_up, is_begun, is_shaped, puts_of, rows_if, scans_of, writes_by}
+use Rattle.txn_phases.specs.Deeds.{news_in}
+use Rattle.txn_phases.specs.Phases.{concluded, ends, gives_up, is_shaped, rows_if, scans_of, writes_by}
 use Rattle.front_core.specs.declared.event.TxNo.{TxNo}
-use Rattle.front_core.specs.Asked.{bigints, owns, parts_asked, parts_with, pushed}
+use Rattle.front_core.specs.Asked.{bigints, owns, parts_asked, pushed}
 use Rattle.front_core.specs.Core.{table_named}
 use Rattle.front_core.specs.Jobs.{branch_at, branches_of, job_of, kinds_of, placed, scan_for, targets_for}
-use Rattle.front_core.proofs.Parting.{some_bigint, bigint_some, bigint_fits, asked_there, are_pruned}
-use Rattle.plain_sessions.specs.Exec.{Tables, rows_added, rows_found, with_rows}
+use Rattle.front_core.proofs.Parting.{some_bigint, bigint_some, bigint_fits, are_pruned}
+use Rattle.plain_sessions.specs.Exec.{Tables, rows_added, with_rows}
 use Rattle.plain_sessions.specs.Held.{CanBeServed, stores_of, tables_at}
 use Rattle.phase_law.specs.Laws.{AreHeld, GoesThrough, StatementsGoThrough}
 use Rattle.phase_law.specs.Through.{Through}
-use Rattle.phase_law.proofs.Apart.{AreApart, among}
+use Rattle.phase_law.proofs.Apart.{AreApart}
 use Rattle.phase_law.proofs.Branches.{branches_apart, some_branch}
 use Rattle.phase_law.proofs.Endings.{HaveBegun, ends_through, gives_up_through, ends_alone, gives_up_alone}
 use Rattle.phase_law.proofs.Fits.{passes as rule_passes}
-use Rattle.phase_law.proofs.Few.{few_branches, few_links, few_puts}
+use Rattle.phase_law.proofs.Few.{few_branches, few_links, few_writes}
 use Rattle.phase_law.proofs.Found.{kept_in}
-use Rattle.phase_law.proofs.Left.{none_left, puts_left}
-use Rattle.phase_law.proofs.Lists.{is_itself}
-use Rattle.phase_law.proofs.Noted.{AllDone, all_begun, begun, counted}
+use Rattle.phase_law.proofs.Left.{changes_left, none_left}
+use Rattle.phase_law.proofs.Lists.{is_itself, map_alike}
+use Rattle.phase_law.proofs.Noted.{all_begun, begun, counted}
 use Rattle.phase_law.proofs.Phases.{scanned, same_held}
-use Rattle.phase_law.proofs.Puts.{IsDone, put_answers}
 use Rattle.phase_law.proofs.RowsFit.{rows_are_shaped}
-use Rattle.phase_law.proofs.Scans.{scanned as scan_answer}
-use Rattle.phase_law.proofs.Sent.{IsNamed, table_is_named, table_is_small, table_is_sound, asked_links, statement_scans, statement_counts, statement_puts, statement_puts_done, statement_commits, new_rows_may_be}
-use Rattle.phase_law.proofs.AskedParts.{row_is_asked}
-use Rattle.phase_law.proofs.Stages.{Served, holding, no_branches, no_changes, puts_at, stores_as}
-use Rattle.phase_law.proofs.Targets.{IsLink, link_is_there}
+use Rattle.phase_law.proofs.Sent.{IsNamed, table_is_named, table_is_sound, asked_links, statement_scans, statement_counts, statement_writes, statement_commits, new_rows_are_written}
+use Rattle.phase_law.proofs.Stages.{Served, holding, no_changes, stores_as}
+use Rattle.phase_law.proofs.Targets.{link_is_there}
 use Rattle.phase_law.proofs.Ways.{through_more, have_begun, begins_alone, finds_through, writes_through}
-use Rattle.phase_law.proofs.Whole.{Ways, select_goes, insert_goes, where_same, same_rows, nothing_put}
-use Rattle.phase_law.proofs.Words.{tables_after}
+use Rattle.phase_law.proofs.Whole.{Ways, select_goes, insert_goes, where_same}
+use Rattle.phase_law.proofs.Writes.{Write, Puts, IsWritten, changes_at, writes_of}
+use Rattle.phase_law.proofs.WritesServed.{AreDone}
 
 -- A SET OF KEYS FOR EACH TEST
 
@@ -140,17 +136,9 @@ counted_flat : (f : Target → List (List Value)) (targets : List Target) → co
 counted_flat f [] = refl
 counted_flat f (t ∷ targets) = ap (λ l. rows_if t.counts (f t) ++ l) (counted_flat f targets)
 
-done_all : (answers : List LinkAnswer) → AllByRecursion IsDone answers → AllDone answers
-done_all [] all = tt
-done_all (a ∷ answers) all = (ap is_begun all.0.1, done_all answers all.1)
-
 no_parts : {A B : Type 0} (f : A → B) (xs : List A) → [] ≡ map f xs → xs ≡ []
 no_parts f [] h = refl
 no_parts f (x ∷ xs) h = absurd (let no_one : [] ≡ f x ∷ map f xs = h in cc)
-
-no_rows_added : (xs : List Row) → ((x : Row) → Contains xs x → ⊥) → xs ≡ []
-no_rows_added [] none = refl
-no_rows_added (x ∷ xs) none = absurd (none x (at_front x xs))
 
 nothing_open : (catalog : View) (tx : TxNo) → branches_of catalog tx [] ≡ []
 nothing_open catalog tx = ap (map (branch_at catalog tx)) (none_pass (range_with_len 0 (length catalog.servers)))
@@ -266,24 +254,22 @@ module _ (catalog : View) (tables : Tables) (n : ℕ) (tx : TxNo) (number : ℕ)
       stays = λ h. cc;
     }
 
-    -- the new rows are put and committed
-    written_with : mode_of s ≡ Exclusive → (o : Outcome)
-        → Through 4 n false (open_at no_changes) (writes_by found_job o (puts_of asked (map (placed table.def table.rule) (rows_added table.def s))))
-        (stores_of catalog (with_rows tables number (put_all table.def (tables number) (rows_added table.def s)))) Committed o
-    written_with exclusive o =
-        let news = map (placed table.def table.rule) (rows_added table.def s) in
-        let left = put_all table.def (tables number) (rows_added table.def s) in
-        let puts : Served n (open_at no_changes) (puts_of asked news) (put_answers asked news) (open_at (puts_at asked news)) =
-        subst (λ h. Served n (stores_as servers (tables_at catalog tables) h) (puts_of asked news) (put_answers asked news) (open_at (puts_at asked news))) (sym (same_held n branches Active no_changes))
-        (subst (λ h. Served n (stores_as servers (tables_at catalog tables) (holding n branches Active no_changes)) (puts_of asked news) (put_answers asked news) (stores_as servers (tables_at catalog tables) h))
-        (sym (same_held n branches Active (puts_at asked news))) (statement_puts catalog tables n tx number table s served held is passes)) in
-        let few = few_puts asked news in
+    -- rows are written and committed
+    written_with : (w : ℕ → Write) (left : List Row) → IsWritten table.def table.rule (owns table.rule test) (tables number) w left → mode_of s ≡ Exclusive → (o : Outcome)
+        → Through 4 n false (open_at no_changes) (writes_by found_job o (writes_of (key_name table.def) asked w)) (stores_of catalog (with_rows tables number left)) Committed o
+    written_with w left written exclusive o =
+        let asks : List Ask = writes_of (key_name table.def) asked w in
+        let done : AreDone n (open_at no_changes) asks (open_at (changes_at asked w)) =
+        subst (λ h. AreDone n (stores_as servers (tables_at catalog tables) h) asks (open_at (changes_at asked w))) (sym (same_held n branches Active no_changes))
+        (subst (λ h. AreDone n (stores_as servers (tables_at catalog tables) (holding n branches Active no_changes)) asks (stores_as servers (tables_at catalog tables) h)) (sym (same_held n branches Active (changes_at asked w)))
+        (statement_writes catalog tables n tx number table s served held is passes w left written)) in
+        let few = few_writes (key_name table.def) asked w in
         let few_now = few_asked in
-        writes_through 3 n (open_at no_changes) found_job o (puts_of asked news) (put_answers asked news) (open_at (puts_at asked news)) (stores_of catalog (with_rows tables number left)) Committed o puts
-        (done_all (put_answers asked news) (statement_puts_done catalog tables n tx number table s served held is passes)) (omega (arith, few, few_now))
-        (subst (λ last. Through 3 n false (open_at (puts_at asked news)) (ends found_job o) last Committed o)
-        (puts_left catalog tx asked news (tables_at catalog tables) (tables_at catalog (with_rows tables number left)) (λ server below. statement_commits catalog tables n tx number table s served held is passes server exclusive))
-        (ends_through n servers (tables_at catalog tables) (puts_at asked news) found_job have o))
+        writes_through 3 n (open_at no_changes) found_job o asks done.answers (open_at (changes_at asked w)) (stores_of catalog (with_rows tables number left)) Committed o done.served done.done (omega (arith, few, few_now))
+        (subst (λ last. Through 3 n false (open_at (changes_at asked w)) (ends found_job o) last Committed o)
+        (changes_left catalog tx asked w (tables_at catalog tables) (tables_at catalog (with_rows tables number left))
+        (λ server below. statement_commits catalog tables n tx number table s served held is passes w left written server exclusive))
+        (ends_through n servers (tables_at catalog tables) (changes_at asked w) found_job have o))
 
   -- WITHOUT BRANCHES
 
@@ -312,32 +298,20 @@ module _ (catalog : View) (tables : Tables) (n : ℕ) (tx : TxNo) (number : ℕ)
       stays = λ h. cc;
     }
 
-    none_added : rows_added table.def s ≡ []
-    none_added =
-        no_rows_added (rows_added table.def s) (λ row c.
-        let may = new_rows_may_be catalog tables n tx number table s served held is passes in
-        let place = placed_somewhere (part table.rule (key_of table.def row)) (all_of (λ r. IsSome (part table.rule (key_of table.def r))) (rows_added table.def s) row may.placed c) in
-        never_asked place.0 (row_is_asked table.def table.rule s row place.0 c (all_of (HasKey table.def) (rows_added table.def s) row may.keyed c) (lies_here table.def table.rule row place.0 place.1)))
-      where
-        placed_somewhere : (o : Option ℕ) → IsSome o → (p : ℕ) × (o ≡ Some p)
-        placed_somewhere None h = absurd (cc)
-        placed_somewhere (Some p) h = (p, refl)
+    -- nothing that is written leaves the tables as they were
+    unchanged : (w : ℕ → Write) (left : List Row) → IsWritten table.def table.rule (owns table.rule test) (tables number) w left → mode_of s ≡ Exclusive → stores_of catalog tables ≡ stores_of catalog (with_rows tables number left)
+    unchanged w left written exclusive =
+        map_alike (λ server. at_rest (tables_at catalog tables server)) (λ server. at_rest (tables_at catalog (with_rows tables number left) server)) (range_with_len 0 servers)
+        (λ server c.
+        let changes : map (changed_table (changes_at asked w server)) (tables_at catalog tables server) ≡ tables_at catalog tables server =
+        ap (λ (ts : List Target). map (changed_table (changes_at ts w server)) (tables_at catalog tables server)) none ∙ map-id (tables_at catalog tables server) in
+        ap at_rest (sym changes ∙ statement_commits catalog tables n tx number table s served held is passes w left written server exclusive))
 
-        lies_here : (def : TableDef) (rule : Rule) (row : Row) (p : ℕ) → part rule (key_of def row) ≡ Some p → lies_in def rule p row ≡ true
-        lies_here def rule row p at = ap (λ (o : Option ℕ). option_map_or (λ q. q == p) o false) at ∙ is_itself p
-
-        never_asked : (p : ℕ) → owns table.rule test p ≡ true → ⊥
-        never_asked p own = nothing p (subst (λ l. Contains l p) no_part (asked_there table.rule test p (served.tables number table named.at).rule own))
-
-    written_alone : (o : Outcome)
-        → Through 4 n false (stores_of catalog tables) (writes_by job o (puts_of asked (map (placed table.def table.rule) (rows_added table.def s))))
-        (stores_of catalog (with_rows tables number (put_all table.def (tables number) (rows_added table.def s)))) Alone o
-    written_alone o =
-        let news = map (placed table.def table.rule) (rows_added table.def s) in
-        subst (λ (ts : List Target). Through 4 n false (stores_of catalog tables) (writes_by job o (puts_of ts news)) (stores_of catalog (with_rows tables number (put_all table.def (tables number) (rows_added table.def s)))) Alone o) (sym none)
-        (subst (λ (added : List Row). Through 4 n false (stores_of catalog tables) (ends job o) (stores_of catalog (with_rows tables number (put_all table.def (tables number) added))) Alone o) (sym none_added)
-        (subst (λ (left : List Row). Through 4 n false (stores_of catalog tables) (ends job o) (stores_of catalog (with_rows tables number left)) Alone o) (sym (nothing_put table.def (tables number)))
-        (subst (λ (ts : Tables). Through 4 n false (stores_of catalog tables) (ends job o) (stores_of catalog ts) Alone o) (sym (same_rows tables number)) (ends_alone 4 n (stores_of catalog tables) job o no_branch))))
+    written_alone : (w : ℕ → Write) (left : List Row) → IsWritten table.def table.rule (owns table.rule test) (tables number) w left → mode_of s ≡ Exclusive → (o : Outcome)
+        → Through 4 n false (stores_of catalog tables) (writes_by job o (writes_of (key_name table.def) asked w)) (stores_of catalog (with_rows tables number left)) Alone o
+    written_alone w left written exclusive o =
+        subst (λ (ts : List Target). Through 4 n false (stores_of catalog tables) (writes_by job o (writes_of (key_name table.def) ts w)) (stores_of catalog (with_rows tables number left)) Alone o) (sym none)
+        (subst (λ (last : List Store). Through 4 n false (stores_of catalog tables) (ends job o) last Alone o) (unchanged w left written exclusive) (ends_alone 4 n (stores_of catalog tables) job o no_branch))
 
   -- BY THE LINKS THAT ARE ASKED
 
@@ -347,13 +321,12 @@ module _ (catalog : View) (tables : Tables) (n : ℕ) (tx : TxNo) (number : ℕ)
     pub stores : List Store
     pub how : Ending
     pub ways : Ways catalog tables n tx number table s sound (held number table named.at).rows_of passes (singles test) (singles_are test) pruned job_there stores how
-    pub written : mode_of s ≡ Exclusive → (o : Outcome)
-        → Through 4 n false stores (writes_by job_there o (puts_of asked (map (placed table.def table.rule) (rows_added table.def s))))
-        (stores_of catalog (with_rows tables number (put_all table.def (tables number) (rows_added table.def s)))) how o
+    pub written : (w : ℕ → Write) (left : List Row) → IsWritten table.def table.rule (owns table.rule test) (tables number) w left → mode_of s ≡ Exclusive → (o : Outcome)
+        → Through 4 n false stores (writes_by job_there o (writes_of (key_name table.def) asked w)) (stores_of catalog (with_rows tables number left)) how o
 
   comes_by : (links : List Target) → asked ≡ links → Comes
-  comes_by [] none = record { job_there = job; stores = stores_of catalog tables; how = Alone; ways = alone none; written = λ exclusive o. written_alone none o }
-  comes_by (first ∷ rest) some = record { job_there = found_job; stores = open_at no_changes; how = Committed; ways = with_branches first rest some; written = λ exclusive o. written_with first rest some exclusive o }
+  comes_by [] none = record { job_there = job; stores = stores_of catalog tables; how = Alone; ways = alone none; written = λ w left written exclusive o. written_alone none w left written exclusive o }
+  comes_by (first ∷ rest) some = record { job_there = found_job; stores = open_at no_changes; how = Committed; ways = with_branches first rest some; written = λ w left written exclusive o. written_with first rest some w left written exclusive o }
 
   pub comes : Comes
   comes = comes_by asked refl
@@ -385,7 +358,10 @@ insert_through catalog tables n tx number table insert served held is passes =
     let def = table.def in
     insert_goes catalog tables n tx number table s (sound catalog tables n tx number table s served held is passes) (held number table (named catalog tables n tx number table s served held is passes).at).rows_of passes (singles (keeps_key def (pushed def s))) (singles_are (keeps_key def (pushed def s)))
     (pruned catalog tables n tx number table s served held is passes)
-    (rows_of def insert.columns insert.rows) refl refl here.job_there here.stores here.how here.ways (λ o free. here.written refl o)
+    (rows_of def insert.columns insert.rows) refl refl here.job_there here.stores here.how here.ways
+    (λ o free.
+    here.written (λ p. Puts (news_in (map (placed def table.rule) (rows_added def s)) p)) (put_all def (tables number) (rows_added def s))
+    (new_rows_are_written catalog tables n tx number table s served held is passes) refl o)
 
 -- every statement
 pub statements_go_through : StatementsGoThrough

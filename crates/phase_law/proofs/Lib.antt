@@ -3,6 +3,7 @@ pub mod AskedParts
 pub mod Bare
 pub mod Branches
 pub mod Commits
+pub mod Dels
 pub mod Endings
 pub mod Few
 pub mod Fits
@@ -28,3 +29,5 @@ pub mod Targets
 pub mod Ways
 pub mod Whole
 pub mod Words
+pub mod Writes
+pub mod WritesServed

@@ -81,6 +81,30 @@ flat_filter p f (x ∷ xs) none =
       | inr goes ↦ rw (goes, none x (at_front x xs) goes) rest
     ]
 
+-- nothing passes a test that no element passes
+pub none_kept : {X : Type 0} (test : X → Bool) (xs : List X) → ((x : X) → Contains xs x → test x ≡ true → ⊥) → filter test xs ≡ []
+none_kept test [] none = refl
+none_kept test (x ∷ xs) none = elim (cases_Bool (test x)) [
+  | inl here ↦ absurd (none x (at_front x xs) here)
+  | inr other ↦ rw other (none_kept test xs (λ z c. none z (behind x z xs c)))
+]
+
+-- two tests come in either order, where the second of them is the same on what passes the first
+pub filters_swap : {X : Type 0} (first second other : X → Bool) (xs : List X) → ((x : X) → first x ≡ true → second x ≡ other x) → filter first (filter second xs) ≡ filter other (filter first xs)
+filters_swap first second other [] same = refl
+filters_swap first second other (x ∷ xs) same =
+    let rest = filters_swap first second other xs same in
+    elim (cases_Bool (first x)) [
+      | inl here ↦ elim (cases_Bool (second x)) [
+        | inl stays ↦ let too : other x ≡ true = sym (same x here) ∙ stays in rw (stays, here, too) (ap (λ l. x ∷ l) rest)
+        | inr goes ↦ let too : other x ≡ false = sym (same x here) ∙ goes in rw (goes, here, too) rest
+      ]
+      | inr elsewhere ↦ elim (cases_Bool (second x)) [
+        | inl stays ↦ rw (stays, elsewhere) rest
+        | inr goes ↦ rw (goes, elsewhere) rest
+      ]
+    ]
+
 -- NUMBERS FROM ONE ON
 
 next : (a i : ℕ) → (a + 1) + i ≡ a + suc i

@@ -1,5 +1,5 @@
 -- Rows put in the order of their keys leave what they leave in any order in which the last of a key is the same.
-use Rattle.std.proofs.Common.{◌≡◌, Bool, true, false, List, [], ◌∷◌, refl, arith, sym, ◌∙◌, ap, subst, inl, inr}
+use Rattle.std.proofs.Common.{◌≡◌, Bool, true, false, List, [], ◌∷◌, ◌++◌, refl, arith, sym, ◌∙◌, ap, subst, inl, inr, cond}
 use Rattle.std.specs.Prelude.{◌⊎◌, int_lt}
 use Rattle.std.specs.List.{AllByRecursion, Contains, filter}
 use Rattle.std.specs.List.Sorted.{IsStrictlySortedBy}
@@ -158,3 +158,23 @@ put_all_inner def rows inner (new ∷ news) rises up =
 pub put_in_order : (def : TableDef) (rows news : List Row) → Rises def rows → put_all def rows (put_all def [] news) ≡ put_all def rows news
 unfolding put_all IsStrictlySortedBy
 put_in_order def rows news rises = put_all_inner def rows [] news rises tt
+
+-- RISING ROWS
+
+-- a row below all that are put stays in front
+stays_first : (def : TableDef) (row : Row) (rows news : List Row) → AllByRecursion (λ r. by_key def row r ≡ Less) news → put_all def (row ∷ rows) news ≡ row ∷ put_all def rows news
+unfolding put_all
+stays_first def row rows [] all = refl
+stays_first def row rows (new ∷ news) all =
+    let less : int_lt (key_of def row) (key_of def new) ≡ true = less_is def row new all.0 in
+    let not_more : int_lt (key_of def new) (key_of def row) ≡ false = grind (arith, ints) in
+    let one : put def (row ∷ rows) new ≡ row ∷ put def rows new =
+    ap (λ b. cond b (row ∷ filter (below def new) rows) (filter (below def new) rows) ++ new ∷ filter (above def new) (row ∷ rows)) less
+    ∙ ap (λ b. row ∷ (filter (below def new) rows ++ new ∷ cond b (row ∷ filter (above def new) rows) (filter (above def new) rows))) not_more in
+    ap (λ l. put_all def l news) one ∙ stays_first def row (put def rows new) news all.1
+
+-- rows whose keys rise are put as they come
+pub put_as_they_come : (def : TableDef) (rows : List Row) → Rises def rows → put_all def [] rows ≡ rows
+unfolding put_all IsStrictlySortedBy
+put_as_they_come def [] rises = refl
+put_as_they_come def (row ∷ rows) rises = stays_first def row [] rows rises.0 ∙ ap (λ l. row ∷ l) (put_as_they_come def rows rises.1)

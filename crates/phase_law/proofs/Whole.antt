@@ -1,13 +1,11 @@
 -- A statement goes through its phases to its plain answer.
-use Rattle.std.proofs.Common.{◌≡◌, ℕ, suc, zero, ◌+◌, ◌<◌, ◌≤◌, ◌^◌, ◌++◌, ℤ, pos, Bool, true, false, not, cond, List, [], ◌∷◌, map, length, Option, Some, None, refl, sym, ap, ◌∙◌, subst, arith}
-use Rattle.std.specs.Prelude.{◌==◌, ◌||◌, slice_get, codes, IsSome, unwrap_or}
-use Rattle.std.specs.List.{AllByRecursion, Contains, filter, flat_map, list_all, list_any, range_with_len}
-use Rattle.std.specs.Option.{option_map, option_map_or}
+use Rattle.std.proofs.Common.{◌≡◌, ℕ, ℤ, Bool, true, false, not, cond, List, [], ◌∷◌, map, length, Option, Some, None, refl, sym, ap, ◌∙◌, subst, arith}
+use Rattle.std.specs.Prelude.{◌==◌, ◌||◌, slice_get, codes}
+use Rattle.std.specs.List.{list_any}
+use Rattle.std.specs.Option.{option_map}
 use Rattle.std.specs.Ordering.{int_eq}
 use Rattle.std.proofs.lemmas.Bool.Decides.{nat_tests}
 use Rattle.std.proofs.lemmas.List.{length-map}
-use Rattle.std.proofs.lemmas.List.Elements.{filter_agree}
-use Rattle.sql_values.specs.declared.literal.Literal.{Literal}
 use Rattle.sql_values.specs.declared.places.Interval.{Interval}
 use Rattle.sql_values.specs.declared.table.TableDef.{TableDef}
 use Rattle.sql_values.specs.declared.tree.Cond.{Cond}
@@ -16,21 +14,16 @@ use Rattle.sql_values.specs.declared.value.Value.TheVariants as value
 use Rattle.sql_values.specs.Checks.{cond_columns}
 use Rattle.sql_values.specs.KeySets.{AreKeys}
 use Rattle.part_rules.specs.declared.rule.Rule.{Rule}
-use Rattle.part_rules.specs.Placing.{part}
 use Rattle.part_rules.specs.Pruned.{IsPruned}
 use Rattle.catalog.specs.declared.tables.Table.{Table}
 use Rattle.catalog.specs.Views.{View}
-use Rattle.sql_text.specs.declared.link.LinkAnswer.{LinkAnswer}
-use Rattle.sql_text.specs.declared.link.LinkAnswer.TheVariants as answer
 use Rattle.sql_text.specs.declared.link.ScanItems.TheVariants as scan
 use Rattle.sql_text.specs.declared.statement.Select.{Select}
 use Rattle.sql_text.specs.declared.statement.Statement.{Statement}
 use Rattle.sql_text.specs.declared.statement.Statement.TheVariants as statement
-use Rattle.stmt_plan.specs.declared.fault.StmtFault.TheVariants.{NoColumn}
 use Rattle.stmt_plan.specs.declared.planned.Pick.{Pick}
 use Rattle.stmt_plan.specs.declared.planned.Picks.{Picks}
 use Rattle.stmt_plan.specs.declared.planned.Plan.{Plan}
-use Rattle.stmt_plan.specs.declared.planned.Work.{Work}
 use Rattle.stmt_plan.specs.declared.planned.Work.TheVariants as work
 use Rattle.stmt_plan.specs.Inserts.{rows_of, row_key}
 use Rattle.stmt_plan.specs.Plans.{IsPlan, IsPushed, keeps_key, mode_of, work_of}
@@ -39,7 +32,7 @@ use Rattle.stmt_plan.specs.Refusals.{refusal, no_column}
 use Rattle.stmt_plan.specs.Selects.{known_as, unqualified}
 use Rattle.stmt_plan.proofs.BareNames.{unqualified_means_the_same}
 use Rattle.plain_tables.specs.Inserts.{first_taken, has_row, put_all}
-use Rattle.plain_tables.specs.Partitions.{IsTable, rows_in}
+use Rattle.plain_tables.specs.Partitions.{IsTable}
 use Rattle.plain_tables.specs.Rows.{Row, holds_on, kept, key_of}
 use Rattle.plain_tables.specs.Statements.{Answer, Duplicate, Done, Found, executed, finished, applied, added_by, cell_at, cells_of}
 use Rattle.plain_tables.proofs.Inserted.{same_taken}
@@ -50,10 +43,8 @@ use Rattle.my_messages.specs.declared.reply.Reply.{Reply}
 use Rattle.my_messages.specs.declared.reply.Reply.TheVariants as reply
 use Rattle.sql_replies.specs.Errors.{ok_reply, duplicate_reply, limit_reply}
 use Rattle.sql_replies.specs.Outcomes.{outcome_reply}
-use Rattle.sql_replies.specs.Results.{cell_of, column_of, text_of}
+use Rattle.sql_replies.specs.Results.{cell_of, column_of}
 use Rattle.sql_replies.specs.Results.{cells_of as cells_shown}
-use Rattle.txn_phases.specs.declared.deed.Deed.{Deed}
-use Rattle.txn_phases.specs.declared.deed.Deed.TheVariants as deed
 use Rattle.txn_phases.specs.declared.deed.Outcome.{Outcome}
 use Rattle.txn_phases.specs.declared.deed.Outcome.TheVariants as outcome
 use Rattle.txn_phases.specs.declared.deed.PlacedRow.{PlacedRow}
@@ -61,7 +52,7 @@ use Rattle.txn_phases.specs.declared.job.Job.{Job}
 use Rattle.txn_phases.specs.declared.phase.Ending.{Ending}
 use Rattle.txn_phases.specs.declared.phase.Ending.TheVariants.{RolledBack}
 use Rattle.txn_phases.specs.declared.phase.Progress.{Progress}
-use Rattle.txn_phases.specs.declared.phase.Target.{Target}
+use Rattle.txn_phases.specs.declared.requests.Ask.{Ask}
 use Rattle.txn_phases.specs.Deeds.{all_rows, is_found, key_order, merged, merged_within, taken_key, writes_too_much}
 use Rattle.txn_phases.specs.Phases.{begins, concluded, concluded_by, ends, gives_up, inserting_by, inserts, puts_of, selects, writes_by}
 use Rattle.txn_phases.specs.Sorting.{insert_by, sorted_by}
@@ -238,6 +229,14 @@ module _ (catalog : View) (tables : Tables) (n : ℕ) (tx : TxNo) (number : ℕ)
       (ways.begun (stores_of catalog tables) how o (subst (λ (x : Job × Progress). Through 4 n false stores x (stores_of catalog tables) how o) (sym concludes) (ways.ended o))))
       told (λ h. refl)
 
+  -- what is written on the way is left
+  writes_goes : (j : Job) (stores : List Store) (how : Ending) (o : Outcome) (r : Reply) (asks : List Ask) (left : List Row) → Ways j stores how → concluded j ≡ writes_by j o asks → exec_on table s (tables number) ≡ (r, left)
+      → Through 4 n false stores (writes_by j o asks) (stores_of catalog (with_rows tables number left)) how o → outcome_told catalog (picks_by (work_of table.def s)) table.def o ≡ r → GoesThrough catalog tables n tx number table s
+  writes_goes j stores how o r asks left ways concludes plainly written told =
+      goes_so how o r left plainly
+      (ways.begun (stores_of catalog (with_rows tables number left)) how o (subst (λ (x : Job × Progress). Through 4 n false stores x (stores_of catalog (with_rows tables number left)) how o) (sym concludes) written))
+      told (λ h. absurd (ways.stays h))
+
   -- SELECT
 
   module _ (picks : Picks) (w_is : work_of table.def s ≡ work.Select picks) (found_same : rows_found table.def s (tables number) ≡ rows_kept) where
@@ -359,13 +358,11 @@ module _ (catalog : View) (tables : Tables) (n : ℕ) (tx : TxNo) (number : ℕ)
         much_given_up : (j : Job) → writes_too_much (targets_for table s) news ≡ true → inserts j (inserting_by (targets_for table s) news None) ≡ gives_up j outcome.WriteSetLimit
         much_given_up j much = rw much refl
     insert_by_rows j stores how None false free much ways written =
-        goes_so how (outcome.Inserted (length news)) (ok_reply (length added)) left
+        writes_goes j stores how (outcome.Inserted (length news)) (ok_reply (length added)) (puts_of (targets_for table s) news) left ways
+        (inserts_so j stores how ways ∙ ap (λ x. inserts j (inserting_by (targets_for table s) news x)) free ∙ few_written j much)
         (exec_done false much free)
-        (ways.begun (stores_of catalog (with_rows tables number left)) how (outcome.Inserted (length news))
-        (subst (λ (x : Job × Progress). Through 4 n false stores x (stores_of catalog (with_rows tables number left)) how (outcome.Inserted (length news)))
-        (sym (inserts_so j stores how ways ∙ ap (λ x. inserts j (inserting_by (targets_for table s) news x)) free ∙ few_written j much)) (written (outcome.Inserted (length news)) free)))
+        (written (outcome.Inserted (length news)) free)
         (told_so (outcome.Inserted (length news)) (ok_reply (length added)) (ap ok_reply (length-map added (placed table.def table.rule))))
-        (λ h. absurd (ways.stays h))
       where
         few_written : (j : Job) → writes_too_much (targets_for table s) news ≡ false → inserts j (inserting_by (targets_for table s) news None) ≡ writes_by j (outcome.Inserted (length news)) (puts_of (targets_for table s) news)
         few_written j much = rw much refl
