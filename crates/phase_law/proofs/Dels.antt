@@ -1,5 +1,5 @@
 -- Keys whose rows go: those of each partition, and what they leave there.
-use Rattle.std.proofs.Common.{◌≡◌, ℕ, ◌==◌, ℤ, Bool, true, false, not, List, [], ◌∷◌, filter, refl, sym, ◌∙◌, ap, inl, inr, unwrap_or}
+use Rattle.std.proofs.Common.{◌≡◌, ℕ, ◌==◌, ℤ, Bool, true, false, not, List, [], ◌∷◌, map, filter, refl, sym, ◌∙◌, ap, inl, inr, unwrap_or}
 use Rattle.std.specs.Prelude.{IsSome}
 use Rattle.std.specs.List.{AllByRecursion, Contains, list_any}
 use Rattle.std.specs.List.Sorted.{IsStrictlySortedBy}
@@ -38,6 +38,11 @@ keys_placed rule p (k ∷ keys) all =
       | inl inside ↦ rw (same, inside) (ap (λ l. k ∷ l) rest)
       | inr outside ↦ rw (same, outside) rest
     ]
+
+-- as those of a table's rows do
+pub keys_have_parts : (def : TableDef) (rule : Rule) (rows : List Row) → AllByRecursion (λ row. IsSome (part rule (key_of def row))) rows → AllByRecursion (λ k. IsSome (part rule k)) (map (key_of def) rows)
+keys_have_parts def rule [] all = tt
+keys_have_parts def rule (row ∷ rows) all = (all.0, keys_have_parts def rule rows all.1)
 
 -- a key that lies there is among them where it is among all
 listed_there : (rule : Rule) (p : ℕ) (key : ℤ) (keys : List ℤ) → lies_at rule p key ≡ true → list_any (int_eq key) keys ≡ list_any (int_eq key) (keys_lying rule p keys)

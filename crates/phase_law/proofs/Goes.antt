@@ -1,5 +1,5 @@
 -- Every statement that breaks no rule goes through its phases to its plain answer.
-use Rattle.std.proofs.Common.{◌≡◌, ℕ, ◌+◌, ◌<◌, ◌≤◌, ◌^◌, ◌++◌, ℤ, Bool, true, false, cond, List, [], ◌∷◌, map, length, Some, None, refl, sym, ap, ◌∙◌, subst, arith, inl, inr, map-id}
+use Rattle.std.proofs.Common.{◌≡◌, ℕ, ◌<◌, ◌≤◌, ◌^◌, ◌++◌, ℤ, Bool, true, false, cond, List, [], ◌∷◌, map, length, Some, None, refl, sym, ap, ◌∙◌, subst, arith, inl, inr, map-id}
 use Rattle.std.specs.Prelude.{◌==◌, ◌||◌, ◌&&◌, FitsSigned}
 use Rattle.std.specs.Option.{option_map}
 use Rattle.std.specs.Int.{w64}
@@ -30,7 +30,7 @@ use Rattle.stmt_plan.specs.Selects.{known_name, picks_of, known_as, unqualified}
 use Rattle.plain_tables.specs.Inserts.{put_all}
 use Rattle.plain_tables.specs.Rows.{Row, holds_on}
 use Rattle.plain_tables.specs.Partitions.{rows_in}
-use Rattle.plain_tables.proofs.Members.{all_of, all_by, at_front, behind, kept_passes, nothing}
+use Rattle.plain_tables.proofs.Members.{all_of, all_by, at_front, behind, kept_passes}
 use Rattle.std.proofs.lemmas.List.Elements.{filter_agree}
 use Rattle.branch_store.specs.declared.branch.Change.{Change}
 use Rattle.branch_store.specs.declared.branch.Stage.TheVariants.{Active}
