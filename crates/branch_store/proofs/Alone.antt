@@ -8,7 +8,7 @@ use Rattle.sql_text.specs.declared.link.LinkAnswer.TheVariants.{Done}
 use Rattle.sql_text.specs.declared.link.LinkRequest.{LinkRequest}
 use Rattle.sql_text.specs.declared.link.LinkRequest.TheVariants as request
 use Rattle.plain_tables.specs.Inserts.{put_all}
-use Rattle.plain_tables.specs.Rows.{Row}
+use Rattle.plain_tables.specs.Rows.{Row, fits_columns}
 use Rattle.branch_store.specs.declared.branch.Branch.{Branch}
 use Rattle.branch_store.specs.declared.branch.Change.{Change}
 use Rattle.branch_store.specs.declared.branch.Change.TheVariants.{Put}
@@ -16,7 +16,7 @@ use Rattle.branch_store.specs.declared.branch.Stage.{Stage}
 use Rattle.branch_store.specs.declared.branch.Stage.TheVariants.{Active, Ended, Prepared}
 use Rattle.branch_store.specs.declared.fault.BranchFault.TheVariants.{WrongState, TypeMismatch}
 use Rattle.branch_store.specs.Changes.{is_called}
-use Rattle.branch_store.specs.Faults.{has_xid, is_own, is_row, branch_fault, rows_fault, may_end, may_prepare, may_commit, may_roll_back}
+use Rattle.branch_store.specs.Faults.{has_xid, is_own, branch_fault, rows_fault, may_end, may_prepare, may_commit, may_roll_back}
 use Rattle.branch_store.specs.Laws.{after_all, at_rest, put_into, CommitsKeepPuts, RollbacksLeaveNothing}
 use Rattle.branch_store.specs.Lists.{changed_first, without_first}
 use Rattle.branch_store.specs.Store.{Store, store_step, own, living, work_on, working, and_table, own_changes, table_called, unless_fault, with_branches, with_change, add_change, at_stage, changed_table, changes_of, put, moved, committed, rolled_back, without_branch}
@@ -47,7 +47,7 @@ module _ {X : Type 0} (p : X → Bool) (x : X) (passes : p x ≡ true) where
   gone_one : without_first p (x ∷ []) ≡ []
   gone_one = ap (λ b. cond b [] (x ∷ [])) passes
 
-put_done : (store : Store) (conn : ℕ) (name : List ℕ) (rows : List Row) (table : Table) (xid : Xid) (owner : ℕ) (changes : List Change) → own store conn ≡ Some (at xid owner Active changes) → table_called store name ≡ Some table → list_all (is_row table.def) rows ≡ true
+put_done : (store : Store) (conn : ℕ) (name : List ℕ) (rows : List Row) (table : Table) (xid : Xid) (owner : ℕ) (changes : List Change) → own store conn ≡ Some (at xid owner Active changes) → table_called store name ≡ Some table → list_all (fits_columns table.def) rows ≡ true
     → (put store conn name rows).0 ≡ with_change store conn (Put name rows)
 put_done store conn name rows table xid owner changes mine there fit =
     let act : List Change → Table → Store × LinkAnswer = λ cs t. unless_fault store (rows_fault t.def rows) (with_change store conn (Put name rows), Done (length rows)) in
@@ -76,7 +76,7 @@ module _ (tables : List Table) (conn : ℕ) (xid : Xid) (name : List ℕ) (rows 
   owned : (changes : List Change) → is_own conn (at xid conn Active changes) ≡ true
   owned changes = both (conn == conn) true (same_number conn) refl
 
-  putting : (table : Table) → table_called (at_rest tables) name ≡ Some table → list_all (is_row table.def) rows ≡ true → (store_step (one tables (at xid conn Active [])) conn (request.Put name rows)).0 ≡ one tables asked
+  putting : (table : Table) → table_called (at_rest tables) name ≡ Some table → list_all (fits_columns table.def) rows ≡ true → (store_step (one tables (at xid conn Active [])) conn (request.Put name rows)).0 ≡ one tables asked
   putting table there fit =
       put_done (one tables (at xid conn Active [])) conn name rows table xid conn [] (found_one (is_own conn) (at xid conn Active []) (owned [])) there fit
       ∙ ap (with_branches (one tables (at xid conn Active []))) (changed_one (is_own conn) (at xid conn Active []) (owned []) (add_change (Put name rows)))

@@ -20,13 +20,13 @@ use Rattle.sql_values.specs.KeySets.{AreKeys, is_within, IsNormal}
 use Rattle.part_rules.specs.Keeps.{keeps}
 use Rattle.part_rules.specs.KeyRows.{HasOwnKeyName}
 use Rattle.plain_tables.specs.Inserts.{put_all}
-use Rattle.plain_tables.specs.Rows.{Row, HasKey, Rises, by_key, key_of, holds_on, kept}
+use Rattle.plain_tables.specs.Rows.{Row, HasKey, Rises, by_key, key_of, holds_on, kept, FitsColumns}
 use Rattle.plain_tables.proofs.Merged.{key_is_kept}
 use Rattle.branch_store.specs.declared.branch.Change.{Change}
 use Rattle.branch_store.specs.Changes.{after}
 use Rattle.branch_store.specs.Opening.{is_definition}
 use Rattle.branch_store.specs.Scanning.{AreOfTable, MissesNone, lies_among, lies_within}
-use Rattle.branch_store.specs.Sound.{IsRow, AreRows}
+use Rattle.branch_store.specs.Sound.{AreRows}
 use Rattle.branch_store.specs.Store.{first_rows}
 use Rattle.branch_store.specs.Tables.{Table}
 use Rattle.branch_store.proofs.Keyed.{Keyed}
@@ -66,12 +66,12 @@ module _ (def : TableDef) (cond : Option Cond) (keys : List Interval) where
   same_found : (rows : List Row) → MissesNone def cond keys → AllByRecursion (HasKey def) rows → kept def cond (filter (lies_among def keys) rows) ≡ kept def cond rows
   same_found rows misses all = missed (lies_among def keys) (holds_on def cond) rows (all_told rows misses all)
 
-have_keys : (def : TableDef) (rows : List Row) → is_definition def ≡ true → AllByRecursion (IsRow def) rows → AllByRecursion (HasKey def) rows
+have_keys : (def : TableDef) (rows : List Row) → is_definition def ≡ true → AllByRecursion (FitsColumns def) rows → AllByRecursion (HasKey def) rows
 have_keys def [] is all = tt
 have_keys def (row ∷ rows) is all = (rows_have_keys def row is all.0, have_keys def rows is all.1)
 
 some_rows : (def : TableDef) (p : Row → Bool) (rows : List Row) → AreRows def rows → AreRows def (filter p rows)
-some_rows def p rows are = record { rises = IsStrictlySortedBy-filter (by_key def) p rows are.rises; fit = all_filter (IsRow def) p rows are.fit }
+some_rows def p rows are = record { rises = IsStrictlySortedBy-filter (by_key def) p rows are.rises; fit = all_filter (FitsColumns def) p rows are.fit }
 
 -- the rows of the condition's keys are enough
 pub found_among : (table : Table) (changes : List Change) (cond : Option Cond) (keys : List Interval) → AreOfTable changes table → MissesNone table.def cond keys → kept table.def cond (filter (lies_among table.def keys) table.rows) ≡ kept table.def cond table.rows

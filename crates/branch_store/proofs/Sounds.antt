@@ -13,7 +13,7 @@ use Rattle.sql_text.specs.declared.link.LinkAnswer.TheVariants.{Done, Rows}
 use Rattle.sql_text.specs.declared.link.LinkRequest.TheVariants as request
 use Rattle.sql_text.specs.declared.link.Scan.{Scan}
 use Rattle.plain_tables.specs.Inserts.{put, put_all}
-use Rattle.plain_tables.specs.Rows.{Row, by_key, holds_on, kept}
+use Rattle.plain_tables.specs.Rows.{Row, by_key, holds_on, kept, FitsColumns, fits_columns}
 use Rattle.plain_tables.proofs.Inserted.{put_rises, in_put}
 use Rattle.plain_tables.proofs.Members.{all_of, all_by, kept_passes}
 use Rattle.branch_store.specs.declared.branch.Branch.{Branch}
@@ -25,11 +25,11 @@ use Rattle.branch_store.specs.declared.fault.BranchFault.{BranchFault}
 use Rattle.branch_store.specs.declared.fault.BranchFault.TheVariants.{NoSuchBranch, WrongState, Duplicate, NoTable, NoColumn, TypeMismatch, NotSupported}
 use Rattle.branch_store.specs.Changes.{after, changed, has_key_in, has_key_from, is_called, without}
 use Rattle.branch_store.specs.Answers.{refusal}
-use Rattle.branch_store.specs.Faults.{has_xid, is_own, is_row, start_fault, branch_fault, rows_fault, key_fault, scan_fault, may_end, may_prepare, may_commit, may_roll_back}
+use Rattle.branch_store.specs.Faults.{has_xid, is_own, start_fault, branch_fault, rows_fault, key_fault, scan_fault, may_end, may_prepare, may_commit, may_roll_back}
 use Rattle.branch_store.specs.Lists.{changed_first, without_first}
 use Rattle.branch_store.specs.Opening.{are_apart, are_tables, is_definition, empty_table, empty_tables}
 use Rattle.branch_store.specs.Scanning.{AreOfTable}
-use Rattle.branch_store.specs.Sound.{IsRow, AreRows, FitsTable, FitsTables, definition, IsSound, StepsKeepRows, HangupsKeepRows, AnswersHaveForm, are_rows_of, rows_form, done_form}
+use Rattle.branch_store.specs.Sound.{AreRows, FitsTable, FitsTables, definition, IsSound, StepsKeepRows, HangupsKeepRows, AnswersHaveForm, are_rows_of, rows_form, done_form}
 use Rattle.branch_store.specs.Store.{Store, own, living, working, work_on, with_table, and_table, own_changes, active_changes, table_called, unless_fault, with_branches, with_change, add_change, at_stage, changed_table, changes_of, seen, found, first_rows, new_branch}
 use Rattle.branch_store.specs.Tables.{Table}
 
@@ -94,16 +94,16 @@ all_rows p (x ∷ xs) all = ap (λ b. b && list_all p xs) all.0 ∙ all_rows p x
 -- ROWS
 
 module _ (def : TableDef) where
-  put_fits : (rows : List Row) (row : Row) → AllByRecursion (IsRow def) rows → IsRow def row → AllByRecursion (IsRow def) (put def rows row)
-  put_fits rows row all here = all_by (IsRow def) (put def rows row) (λ z c. elim (in_put def rows row z c) [ inl same ↦ subst (IsRow def) same here | inr old ↦ all_of (IsRow def) rows z all old.0 ])
+  put_fits : (rows : List Row) (row : Row) → AllByRecursion (FitsColumns def) rows → FitsColumns def row → AllByRecursion (FitsColumns def) (put def rows row)
+  put_fits rows row all here = all_by (FitsColumns def) (put def rows row) (λ z c. elim (in_put def rows row z c) [ inl same ↦ subst (FitsColumns def) same here | inr old ↦ all_of (FitsColumns def) rows z all old.0 ])
 
-  put_all_fit : (news rows : List Row) → AreRows def rows → AllByRecursion (IsRow def) news → AreRows def (put_all def rows news)
+  put_all_fit : (news rows : List Row) → AreRows def rows → AllByRecursion (FitsColumns def) news → AreRows def (put_all def rows news)
   unfolding put_all
   put_all_fit [] rows are all = are
   put_all_fit (row ∷ news) rows are all = put_all_fit news (put def rows row) (record { rises = put_rises def rows row are.rises; fit = put_fits rows row are.fit all.0 }) all.1
 
   without_fit : (test : Row → Bool) (rows : List Row) → AreRows def rows → AreRows def (without test rows)
-  without_fit test rows are = record { rises = IsStrictlySortedBy-filter (by_key def) (λ row. not (test row)) rows are.rises; fit = all_filter (IsRow def) (λ row. not (test row)) rows are.fit }
+  without_fit test rows are = record { rises = IsStrictlySortedBy-filter (by_key def) (λ row. not (test row)) rows are.rises; fit = all_filter (FitsColumns def) (λ row. not (test row)) rows are.fit }
 
   either_fit : (rows news : List Row) (b : Bool) → (b ≡ true → AreRows def news) → AreRows def rows → AreRows def (cond b news rows)
   either_fit rows news true new old = new refl
@@ -155,7 +155,7 @@ put_fits_by : (name : List ℕ) (rows : List Row) (table : Table) (tables : List
     → (are_rows_of rest rows ≡ true → FitsTables (map definition tables) (Put name rows)) → are_rows_of (cond b (Some table) rest) rows ≡ true → FitsTables (map definition (table ∷ tables)) (Put name rows)
 put_fits_by name rows table tables rest true called apart later fit =
     let each = both_of (not (list_any (is_called table.def.name) (map definition tables))) (are_apart (map definition tables)) apart in
-    ((λ also. rows_all (is_row table.def) rows fit), later_differs name table.def (map definition tables) rows called each.0)
+    ((λ also. rows_all (fits_columns table.def) rows fit), later_differs name table.def (map definition tables) rows called each.0)
 put_fits_by name rows table tables rest false called apart later fit = ((λ also. absurd (false≢true (sym called ∙ also))), later fit)
 
 put_fits_tables : (name : List ℕ) (rows : List Row) (tables : List Table) → are_apart (map definition tables) ≡ true → are_rows_of (find (λ (table : Table). is_called name table.def) tables) rows ≡ true → FitsTables (map definition tables) (Put name rows)
@@ -230,7 +230,7 @@ moved_sound store may xid stage sound =
 gone_sound : (store : Store) (p : Branch → Bool) → IsSound store → IsSound (with_branches store (without_first p store.branches))
 gone_sound store p sound = with_sound store (without_first p store.branches) sound (all_without (FitBranch (map definition store.tables)) p store.branches sound.branches)
 
-put_sound : (store : Store) (conn : ℕ) (name : List ℕ) (rows : List Row) (table : Table) (b : Bool) → list_all (is_row table.def) rows ≡ b → table_called store name ≡ Some table → IsSound store
+put_sound : (store : Store) (conn : ℕ) (name : List ℕ) (rows : List Row) (table : Table) (b : Bool) → list_all (fits_columns table.def) rows ≡ b → table_called store name ≡ Some table → IsSound store
     → IsSound (unless_fault store (cond b None (Some TypeMismatch)) (with_change store conn (Put name rows), Done (length rows))).0
 put_sound store conn name rows table false fit there sound = sound
 put_sound store conn name rows table true fit there sound =
@@ -257,7 +257,7 @@ steps_keep_rows store conn (request.Scan scan) sound =
     (λ b t fit there. unless_sound store (scan_fault t.def scan) (store, Rows (found b.changes t scan)) sound sound)
 steps_keep_rows store conn (request.Put name rows) sound =
     work_by store name (table_called store name) (own store conn) _ (λ done. IsSound done.0) (FitBranch (map definition store.tables)) (own_fits store conn sound) (λ fault. sound)
-    (λ b t fit there. put_sound store conn name rows t (list_all (is_row t.def) rows) refl there sound)
+    (λ b t fit there. put_sound store conn name rows t (list_all (fits_columns t.def) rows) refl there sound)
 steps_keep_rows store conn (request.Del name key keys) sound =
     work_by store name (table_called store name) (own store conn) _ (λ done. IsSound done.0) (FitBranch (map definition store.tables)) (own_fits store conn sound) (λ fault. sound)
     (λ b t fit there. unless_sound store (key_fault t.def (Some key)) _ sound (change_sound store conn (Del name keys) sound (del_fits name keys (map definition store.tables))))
@@ -300,9 +300,9 @@ all_unmapped : {X Y : Type 0} (Q : Y → Type 0) (f : X → Y) (xs : List X) →
 all_unmapped Q f [] all = tt
 all_unmapped Q f (x ∷ xs) all = (all.0, all_unmapped Q f xs all.1)
 
-first_fit : (def : TableDef) (limit : Option ℕ) (rows : List Row) → AllByRecursion (IsRow def) rows → AllByRecursion (IsRow def) (first_rows limit rows)
+first_fit : (def : TableDef) (limit : Option ℕ) (rows : List Row) → AllByRecursion (FitsColumns def) rows → AllByRecursion (FitsColumns def) (first_rows limit rows)
 first_fit def None rows all = all
-first_fit def (Some most) rows all = all_take (IsRow def) most rows all
+first_fit def (Some most) rows all = all_take (FitsColumns def) most rows all
 
 -- what a scan finds are rows of its table
 found_fits : (store : Store) (scan : Scan) (changes : List Change) (table : Table) → IsSound store → AllByRecursion (FitsTables (map definition store.tables)) changes → table_called store scan.table ≡ Some table
@@ -315,9 +315,9 @@ found_fits store scan changes table sound fit there =
     let rows : AreRows table.def table.rows = subst (λ o. IfSome o have) there (all_found have called store.tables sound.rows) in
     let each : AllByRecursion take_changes store.tables = all_unmapped (λ def. AllByRecursion (λ change. FitsTable change def) changes) definition store.tables (all_by (λ def. AllByRecursion (λ change. FitsTable change def) changes) defs (λ def at. fit_one defs def at changes fit)) in
     let its : take_changes table = subst (λ o. IfSome o take_changes) there (all_found take_changes called store.tables each) in
-    let all : AllByRecursion (IsRow table.def) (found changes table scan) =
-    first_fit table.def scan.limit (kept table.def scan.cond (seen changes table)) (all_filter (IsRow table.def) (holds_on table.def scan.cond) (seen changes table) (after_fits table.def changes table.rows rows its).fit) in
-    ap (λ t. are_rows_of t (found changes table scan)) there ∙ all_rows (is_row table.def) (found changes table scan) all
+    let all : AllByRecursion (FitsColumns table.def) (found changes table scan) =
+    first_fit table.def scan.limit (kept table.def scan.cond (seen changes table)) (all_filter (FitsColumns table.def) (holds_on table.def scan.cond) (seen changes table) (after_fits table.def changes table.rows rows its).fit) in
+    ap (λ t. are_rows_of t (found changes table scan)) there ∙ all_rows (fits_columns table.def) (found changes table scan) all
 
 pub answers_have_form : AnswersHaveForm
 answers_have_form store conn (request.Start xid) sound = unless_done store (start_fault (living store xid) (own store conn)) _ refl

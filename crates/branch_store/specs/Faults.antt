@@ -1,24 +1,19 @@
 -- Why a request is refused.
-use Rattle.std.specs.Prelude.{ℕ, ◌==◌, Bool, true, false, not, ◌&&◌, ◌||◌, List, [], ◌∷◌, Option, Some, None, Result, Ok, Err, length, nat_eq, if◌then◌else◌}
-use Rattle.std.specs.List.{list_all, zip}
+use Rattle.std.specs.Prelude.{ℕ, ◌==◌, Bool, true, false, not, ◌&&◌, ◌||◌, List, [], ◌∷◌, Option, Some, None, Result, Ok, Err, nat_eq, if◌then◌else◌}
+use Rattle.std.specs.List.{list_all}
 use Rattle.std.specs.Option.{option_or}
-use Rattle.std.specs.Result.{is_ok}
 use Rattle.std.specs.Cmp.Lexicographic.{pointwise}
 use Rattle.sql_values.specs.declared.checks.CheckFault.{CheckFault}
 use Rattle.sql_values.specs.declared.checks.CheckFault.TheVariants as check
 use Rattle.sql_values.specs.declared.places.Xid.{Xid}
-use Rattle.sql_values.specs.declared.table.ColumnDef.{ColumnDef}
 use Rattle.sql_values.specs.declared.table.TableDef.{TableDef}
 use Rattle.sql_values.specs.declared.tree.Cond.{Cond}
-use Rattle.sql_values.specs.declared.value.Value.{Value}
 use Rattle.sql_values.specs.Checks.{checked_cond}
-use Rattle.sql_values.specs.Conditions.{literal_of}
-use Rattle.sql_values.specs.Storing.{stored}
 use Rattle.sql_text.specs.declared.link.Scan.{Scan}
 use Rattle.sql_text.specs.declared.link.ScanItems.{ScanItems}
 use Rattle.sql_text.specs.declared.link.ScanItems.TheVariants as scanned
 use Rattle.stmt_plan.specs.Inserts.{key_name}
-use Rattle.plain_tables.specs.Rows.{Row}
+use Rattle.plain_tables.specs.Rows.{Row, fits_columns}
 use Rattle.branch_store.specs.declared.branch.Branch.{Branch}
 use Rattle.branch_store.specs.declared.branch.Stage.{Stage}
 use Rattle.branch_store.specs.declared.branch.Stage.TheVariants.{Active, Ended, Prepared}
@@ -75,16 +70,8 @@ may_roll_back conn branch = is_prepared branch.stage || (branch.owner == conn)
 
 -- ROWS
 
--- a column of this kind can hold the value
-abbrev pub fits : ColumnDef × Value → Bool
-fits (column, value) = is_ok (stored (literal_of value) column.kind)
-
--- the row is one of the table: a value for each column
-abbrev pub is_row : TableDef → Row → Bool
-is_row def row = (length row == length def.columns) && list_all fits (zip def.columns row)
-
 abbrev pub rows_fault : TableDef → List Row → Option BranchFault
-rows_fault def rows = if list_all (is_row def) rows then None else Some TypeMismatch
+rows_fault def rows = if list_all (fits_columns def) rows then None else Some TypeMismatch
 
 -- NAMES AND CONDITIONS
 

@@ -6,9 +6,8 @@ use Rattle.sql_text.specs.declared.link.LinkAnswer.TheVariants.{Refused}
 use Rattle.sql_text.specs.declared.link.LinkRequest.{LinkRequest}
 use Rattle.sql_text.specs.declared.link.LinkRequest.TheVariants.{Start, End, Prepare, Commit, Rollback, Put}
 use Rattle.plain_tables.specs.Inserts.{put_all}
-use Rattle.plain_tables.specs.Rows.{Row}
+use Rattle.plain_tables.specs.Rows.{Row, fits_columns}
 use Rattle.branch_store.specs.Changes.{is_called}
-use Rattle.branch_store.specs.Faults.{is_row}
 use Rattle.branch_store.specs.Store.{Store, store_step, table_called}
 use Rattle.branch_store.specs.Tables.{Table}
 
@@ -32,11 +31,11 @@ put_into name rows table = if is_called name table.def then record table { rows 
 -- rows that one branch puts are there once it is committed, on whichever connection
 abbrev pub CommitsKeepPuts : Type 0
 CommitsKeepPuts =
-    (tables : List Table) (conn other : ℕ) (xid : Xid) (name : List ℕ) (rows : List Row) (table : Table) → table_called (at_rest tables) name ≡ Some table → list_all (is_row table.def) rows ≡ true →
+    (tables : List Table) (conn other : ℕ) (xid : Xid) (name : List ℕ) (rows : List Row) (table : Table) → table_called (at_rest tables) name ≡ Some table → list_all (fits_columns table.def) rows ≡ true →
     after_all (at_rest tables) ((conn, Start xid) ∷ (conn, Put name rows) ∷ (conn, End xid) ∷ (conn, Prepare xid) ∷ (other, Commit xid) ∷ []) ≡ at_rest (map (put_into name rows) tables)
 
 -- a branch that is rolled back leaves no trace
 abbrev pub RollbacksLeaveNothing : Type 0
 RollbacksLeaveNothing =
-    (tables : List Table) (conn : ℕ) (xid : Xid) (name : List ℕ) (rows : List Row) (table : Table) → table_called (at_rest tables) name ≡ Some table → list_all (is_row table.def) rows ≡ true →
+    (tables : List Table) (conn : ℕ) (xid : Xid) (name : List ℕ) (rows : List Row) (table : Table) → table_called (at_rest tables) name ≡ Some table → list_all (fits_columns table.def) rows ≡ true →
     after_all (at_rest tables) ((conn, Start xid) ∷ (conn, Put name rows) ∷ (conn, Rollback xid) ∷ []) ≡ at_rest tables

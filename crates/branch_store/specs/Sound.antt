@@ -6,27 +6,23 @@ use Rattle.sql_text.specs.declared.link.LinkAnswer.{LinkAnswer}
 use Rattle.sql_text.specs.declared.link.LinkAnswer.TheVariants as answer
 use Rattle.sql_text.specs.declared.link.LinkRequest.{LinkRequest}
 use Rattle.sql_text.specs.declared.link.LinkRequest.TheVariants as request
-use Rattle.plain_tables.specs.Rows.{Row, HasKey, Rises}
+use Rattle.plain_tables.specs.Rows.{Row, FitsColumns, HasKey, Rises, fits_columns}
 use Rattle.branch_store.specs.declared.branch.Branch.{Branch}
 use Rattle.branch_store.specs.declared.branch.Change.{Change}
 use Rattle.branch_store.specs.declared.branch.Change.TheVariants.{Put, Del, Clear}
 use Rattle.branch_store.specs.Changes.{is_called}
-use Rattle.branch_store.specs.Faults.{is_row}
 use Rattle.branch_store.specs.Opening.{are_apart, is_definition}
 use Rattle.branch_store.specs.Store.{Store, store_step, table_called, hung_up}
 use Rattle.branch_store.specs.Tables.{Table}
 
-abbrev pub IsRow : TableDef → Row → Type 0
-IsRow def row = is_row def row ≡ true
-
 -- rows of a table, in the order of their keys
 pub record AreRows (def : TableDef) (rows : List Row) : Type 0 where
   pub rises : Rises def rows
-  pub fit : AllByRecursion (IsRow def) rows
+  pub fit : AllByRecursion (FitsColumns def) rows
 
 -- the rows that a change puts are rows of this table, where it is a change of it
 abbrev pub FitsTable : Change → TableDef → Type 0
-FitsTable (Put name rows) def = is_called name def ≡ true → AllByRecursion (IsRow def) rows
+FitsTable (Put name rows) def = is_called name def ≡ true → AllByRecursion (FitsColumns def) rows
 FitsTable (Del name keys) def = Unit {0}
 FitsTable (Clear name low high) def = Unit {0}
 
@@ -48,7 +44,7 @@ StepsKeepRows = (store : Store) (conn : ℕ) (request : LinkRequest) → IsSound
 
 -- the key column of such a row has a BIGINT
 abbrev pub RowsHaveKeys : Type 0
-RowsHaveKeys = (def : TableDef) (row : Row) → is_definition def ≡ true → IsRow def row → HasKey def row
+RowsHaveKeys = (def : TableDef) (row : Row) → is_definition def ≡ true → FitsColumns def row → HasKey def row
 
 abbrev pub HangupsKeepRows : Type 0
 HangupsKeepRows = (store : Store) (conn : ℕ) → IsSound store → IsSound (hung_up store conn)
@@ -56,7 +52,7 @@ HangupsKeepRows = (store : Store) (conn : ℕ) → IsSound store → IsSound (hu
 -- the rows are rows of the table, where there is one
 abbrev pub are_rows_of : Option Table → List Row → Bool
 are_rows_of None rows = false
-are_rows_of (Some table) rows = list_all (is_row table.def) rows
+are_rows_of (Some table) rows = list_all (fits_columns table.def) rows
 
 -- a scan is answered by rows of its table, RECOVER by names of branches, and each other request by a number
 abbrev pub rows_form : LinkAnswer → Option Table → Bool

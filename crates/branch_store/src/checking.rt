@@ -8,7 +8,8 @@ ghost use Rattle.std.specs.Cmp.Lexicographic.{pointwise};
 ghost use Rattle.sql_values.specs.Checks.{checked_cond};
 ghost use Rattle.sql_values.specs.Storing.{is_within as fits_within, stored};
 ghost use Rattle.stmt_plan.specs.Inserts.{key_name};
-ghost use Rattle.branch_store.specs.Faults.{fits as can_hold, is_row as row_of, key_fault as name_fault, cond_fault as fault_of_cond, items_fault as fault_of_items, fault_of_check, scan_fault as fault_of_scan};
+ghost use Rattle.plain_tables.specs.Rows.{can_hold, fits_columns};
+ghost use Rattle.branch_store.specs.Faults.{key_fault as name_fault, cond_fault as fault_of_cond, items_fault as fault_of_items, fault_of_check, scan_fault as fault_of_scan};
 
 use crate::BranchFault;
 use crate::remote_table::RemoteTable;
@@ -79,14 +80,14 @@ fn all_fit(columns: &[ColumnDef], values: &[Value]) -> bool
 }
 
 fn is_row(def: &TableDef, row: &Row) -> bool
-    ensures { result ≡ row_of def.now row.now }
+    ensures { result ≡ fits_columns def.now row.now }
 {
     row.len() == def.columns.len() && all_fit(def.columns.as_slice(), row.as_slice())
 }
 
 /// Whether all these are rows of the table.
 pub(crate) fn are_rows(def: &TableDef, rows: &Rows) -> bool
-    ensures { result ≡ list_all (row_of def.now) rows.now }
+    ensures { result ≡ list_all (fits_columns def.now) rows.now }
 {
     for row in rows.as_slice() {
         if !is_row(def, row) {

@@ -1,11 +1,10 @@
 -- The plan of a statement over the tables of a catalog.
-use Rattle.std.specs.Prelude.{◌≡◌, ◌⊎◌, ℕ, List, Option, Some, None, map, slice_get, option_and_then}
+use Rattle.std.specs.Prelude.{◌≡◌, ◌⊎◌, ℕ, List, Some, None, map, slice_get}
 use Rattle.catalog.specs.declared.tables.Table.{Table}
 use Rattle.catalog.specs.Index.{place_in}
 use Rattle.catalog.specs.Views.{table_name}
 use Rattle.sql_text.specs.declared.statement.Statement.{Statement}
 use Rattle.sql_text.specs.declared.statement.Statement.TheVariants as statement
-use Rattle.stmt_plan.specs.declared.fault.StmtFault.{StmtFault}
 use Rattle.stmt_plan.specs.declared.fault.StmtFault.TheVariants.{NoMemory}
 use Rattle.stmt_plan.specs.declared.planned.Plan.{Plan}
 use Rattle.stmt_plan.specs.Plans.{IsPlan}
@@ -18,6 +17,8 @@ use Rattle.catalog_plan.specs.declared.fault.PlanFault.TheVariants.{NoTable, Sta
 abbrev pub table_of : Statement → List ℕ
 table_of (statement.Insert insert) = insert.table
 table_of (statement.Select select) = select.tab.table
+table_of (statement.Update update) = update.table
+table_of (statement.Delete delete) = delete.table
 
 -- the table of that number has the name, and its columns' names differ
 pub record IsFound (tables : List Table) (name : List ℕ) (number : ℕ) (table : Table) : Type 0 where

@@ -18,6 +18,8 @@ fn table_of(statement: &Statement) -> &Name
     match statement {
         Statement::Insert(insert) => &insert.table,
         Statement::Select(select) => &select.tab.table,
+        Statement::Update(update) => &update.table,
+        Statement::Delete(delete) => &delete.table,
     }
 }
 

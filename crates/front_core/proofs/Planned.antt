@@ -35,6 +35,8 @@ cond_is : (def : TableDef) (s : Statement) (cond : Option Cond) → IsPushed def
 cond_is def (statement.Insert insert) cond asks =
     asks.in_list ∙ ap (λ l. Some (in_keys def l)) (rising_is asks.list (map (row_key def.key) (rows_of def insert.columns insert.rows)) asks.rising)
 cond_is def (statement.Select select) cond is = is
+cond_is def (statement.Update update) cond is = is
+cond_is def (statement.Delete delete) cond is = is
 
 -- the job of these parts of a plan
 abbrev job_with : View → TxNo → Table → List ℕ → Option Cond → LockMode → Work → Job

@@ -1,13 +1,16 @@
 -- How much a step of a job gives out at most.
 use Rattle.std.proofs.Common.{◌≡◌, ◌+◌, ◌-◌, ◌≤◌, ℕ, ℤ, zero, suc, Bool, true, false, List, [], ◌∷◌, Option, Some, None, map, max, length, refl, ◌∙◌, ap, arith, inl, inr, nat_lt}
-use Rattle.std.specs.Prelude.{nat_le}
+use Rattle.std.specs.Prelude.{Result, Ok, Err, nat_le}
 use Rattle.std.specs.List.{filter}
 use Rattle.std.proofs.lemmas.Bool.{cases_Bool}
 use Rattle.std.proofs.lemmas.List.{length-map, length-append}
 use Rattle.sql_values.specs.declared.value.Value.{Value}
+use Rattle.part_rules.specs.declared.rule.Rule.{Rule}
 use Rattle.sql_text.specs.declared.link.LinkAnswer.{LinkAnswer}
 use Rattle.sql_text.specs.declared.link.LinkAnswer.TheVariants as answer
 use Rattle.sql_text.specs.declared.link.LinkRequest.TheVariants as request
+use Rattle.stmt_plan.specs.declared.fault.RowFault.{RowFault}
+use Rattle.txn_phases.specs.declared.changing.Changing.{Changing}
 use Rattle.txn_phases.specs.declared.deed.Deed.{Deed}
 use Rattle.txn_phases.specs.declared.deed.Deed.TheVariants as deed
 use Rattle.txn_phases.specs.declared.deed.Outcome.{Outcome}
@@ -20,9 +23,10 @@ use Rattle.txn_phases.specs.declared.phase.Branch.{Branch}
 use Rattle.txn_phases.specs.declared.phase.Phase.{Phase}
 use Rattle.txn_phases.specs.declared.phase.Phase.TheVariants as phase
 use Rattle.txn_phases.specs.declared.phase.Target.{Target}
+use Rattle.txn_phases.specs.declared.partitions.PlacedKey.{PlacedKey}
 use Rattle.txn_phases.specs.declared.requests.Ask.{Ask}
-use Rattle.txn_phases.specs.Deeds.{news_in, taken_key, merged_within, writes_too_much}
-use Rattle.txn_phases.specs.Phases.{to_branches, begun_of, scan_of, scans_of, puts_of, put_of, asking, gives_up_by, gives_up, ends_by, ends, writes_by, selects, inserting_by, inserting, inserts, concluded_by, concluded, decided, follows, is_open, leaves, marked, marked_in, keeps, noted, goes_on, hears, begins_by, begins, with_branches, hearing, server_at, is_scanning, is_starting, counts_at}
+use Rattle.txn_phases.specs.Deeds.{news_in, taken_key, merged_within, writes_too_much, changes_of, keys_in, placed_keys, deletes_too_much}
+use Rattle.txn_phases.specs.Phases.{to_branches, begun_of, scan_of, scans_of, puts_of, put_of, dels_of, del_of, asking, gives_up_by, gives_up, ends_by, ends, writes_by, selects, putting, inserting_by, updating_by, updating, deleting_keys, deleting, writes, concluded_by, concluded, decided, follows, is_open, leaves, marked, marked_in, keeps, noted, goes_on, hears, begins_by, begins, with_branches, hearing, server_at, is_scanning, is_starting, counts_at}
 use Rattle.front_core.specs.Planned.{most_asked, needed}
 
 few_kept : (p : Branch → Bool) (bs : List Branch) → length (filter p bs) ≤ length bs
@@ -63,6 +67,15 @@ puts_few [] news = omega arith
 puts_few (t ∷ ts) news =
     omega (arith, length-append (put_of t (news_in news t.part)) (puts_of ts news), put_few t (news_in news t.part), puts_few ts news)
 
+del_few : (key : List ℕ) (t : Target) (keys : List ℤ) → length (del_of key t keys) ≤ 1
+del_few key t [] = omega arith
+del_few key t (k ∷ keys) = omega arith
+
+dels_few : (key : List ℕ) (ts : List Target) (keys : List PlacedKey) → length (dels_of key ts keys) ≤ length ts
+dels_few key [] keys = omega arith
+dels_few key (t ∷ ts) keys =
+    omega (arith, length-append (del_of key t (keys_in keys t.part)) (dels_of key ts keys), del_few key t (keys_in keys t.part), dels_few key ts keys)
+
 -- THE PHASES
 
 gives_up_few : (job : Job) (o : Outcome) (asks : List Ask) (n : ℕ) → length asks ≤ n → needed (gives_up_by job o asks).1 ≤ n + 3
@@ -87,16 +100,39 @@ selected : (job : Job) (rows : Option (List (List Value))) → needed (selects j
 selected job None = given_up job outcome.AnswerLimit
 selected job (Some rows) = ended job (outcome.Found rows)
 
-inserted : (job : Job) (news : List PlacedRow) (taken : Option ℤ) → needed (inserts job (inserting_by job.targets news taken)).1 ≤ most_asked job + 3
-inserted job news None = elim (cases_Bool (writes_too_much job.targets news)) [
+put_rows : (job : Job) (news : List PlacedRow) → needed (writes job (putting job.targets news)).1 ≤ most_asked job + 3
+put_rows job news = elim (cases_Bool (writes_too_much job.targets news)) [
   | inl much ↦ rw much (given_up job outcome.WriteSetLimit)
-  | inr little ↦ rw little (written job (outcome.Inserted (length news)) (puts_of job.targets news) (omega (arith, puts_few job.targets news)))
+  | inr little ↦ rw little (written job (outcome.Done (length news)) (puts_of job.targets news) (omega (arith, puts_few job.targets news)))
 ]
+
+inserted : (job : Job) (news : List PlacedRow) (taken : Option ℤ) → needed (writes job (inserting_by job.targets news taken)).1 ≤ most_asked job + 3
+inserted job news None = put_rows job news
 inserted job news (Some key) = given_up job (outcome.Duplicate key)
+
+changed : (job : Job) (made : Result (List PlacedRow) RowFault) → needed (writes job (updating_by job.targets made)).1 ≤ most_asked job + 3
+changed job (Ok news) = put_rows job news
+changed job (Err fault) = given_up job (outcome.RowRefused fault)
+
+updated : (job : Job) (c : Changing) (rows : Option (List (List Value))) → needed (writes job (updating job.targets c rows)).1 ≤ most_asked job + 3
+updated job c None = given_up job outcome.AnswerLimit
+updated job c (Some rows) = changed job (changes_of c rows)
+
+keys_gone : (job : Job) (count : ℕ) (keys : List PlacedKey) → needed (writes job (deleting_keys job.targets job.scan count keys)).1 ≤ most_asked job + 3
+keys_gone job count keys = elim (cases_Bool (deletes_too_much job.targets keys)) [
+  | inl much ↦ rw much (given_up job outcome.WriteSetLimit)
+  | inr little ↦ rw little (written job (outcome.Done count) (dels_of job.scan.key job.targets keys) (omega (arith, dels_few job.scan.key job.targets keys)))
+]
+
+deleted : (job : Job) (rule : Rule) (rows : Option (List (List Value))) → needed (writes job (deleting job.targets job.scan rule rows)).1 ≤ most_asked job + 3
+deleted job rule None = given_up job outcome.AnswerLimit
+deleted job rule (Some rows) = keys_gone job (length rows) (placed_keys rule job.scan.place rows)
 
 concluded_few : (job : Job) (d : Deed) → needed (concluded_by job d).1 ≤ most_asked job + 3
 concluded_few job deed.Select = selected job (merged_within job.scan.place job.found)
 concluded_few job (deed.Insert news) = inserted job news (taken_key job.scan.place job.found news)
+concluded_few job (deed.Update c) = updated job c (merged_within job.scan.place job.found)
+concluded_few job (deed.Delete rule) = deleted job rule (merged_within job.scan.place job.found)
 
 followed : (p : Phase) (job : Job) → needed (follows p job).1 ≤ most_asked job + 3
 followed phase.Starting job = omega (arith, length-map job.targets (scan_ask job.scan))

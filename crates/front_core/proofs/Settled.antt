@@ -1,9 +1,13 @@
 -- A statement that is over owes nothing.
-use Rattle.std.proofs.Common.{◌≡◌, ◌==◌, ℤ, Bool, true, false, List, [], ◌∷◌, Option, Some, None, map, length, cond, refl, sym, ◌∙◌, inl, inr, nat_lt}
+use Rattle.std.proofs.Common.{◌≡◌, ◌==◌, ℕ, ℤ, Bool, true, false, List, [], ◌∷◌, Option, Some, None, map, length, cond, refl, sym, ◌∙◌, inl, inr, nat_lt}
+use Rattle.std.specs.Prelude.{Result, Ok, Err}
 use Rattle.std.proofs.lemmas.Bool.{cases_Bool, both_ways}
 use Rattle.std.proofs.lemmas.List.{length-map}
 use Rattle.sql_values.specs.declared.value.Value.{Value}
+use Rattle.part_rules.specs.declared.rule.Rule.{Rule}
 use Rattle.sql_text.specs.declared.link.LinkAnswer.{LinkAnswer}
+use Rattle.stmt_plan.specs.declared.fault.RowFault.{RowFault}
+use Rattle.txn_phases.specs.declared.changing.Changing.{Changing}
 use Rattle.txn_phases.specs.declared.deed.Deed.{Deed}
 use Rattle.txn_phases.specs.declared.deed.Deed.TheVariants as deed
 use Rattle.txn_phases.specs.declared.deed.Outcome.{Outcome}
@@ -16,9 +20,10 @@ use Rattle.txn_phases.specs.declared.phase.Phase.{Phase}
 use Rattle.txn_phases.specs.declared.phase.Phase.TheVariants as phase
 use Rattle.txn_phases.specs.declared.phase.Stage.{Stage}
 use Rattle.txn_phases.specs.declared.phase.Stage.TheVariants as stage
+use Rattle.txn_phases.specs.declared.partitions.PlacedKey.{PlacedKey}
 use Rattle.txn_phases.specs.declared.requests.Ask.{Ask}
-use Rattle.txn_phases.specs.Deeds.{taken_key, merged_within, writes_too_much}
-use Rattle.txn_phases.specs.Phases.{begun_of, puts_of, gives_up_by, gives_up, ends_by, ends, writes_by, selects, inserting_by, inserts, concluded_by, follows, is_open, leaves, noted, goes_on, hears, stage_of, undone_in, owed_of, owed_noted}
+use Rattle.txn_phases.specs.Deeds.{taken_key, merged_within, writes_too_much, changes_of, placed_keys, deletes_too_much}
+use Rattle.txn_phases.specs.Phases.{begun_of, puts_of, dels_of, gives_up_by, gives_up, ends_by, ends, writes_by, selects, putting, inserting_by, updating_by, updating, deleting_keys, deleting, writes, concluded_by, follows, is_open, leaves, noted, goes_on, hears, stage_of, undone_in, owed_of, owed_noted}
 use Rattle.front_core.specs.Core.{is_settled, owing}
 use Rattle.front_core.specs.declared.work.Work.TheVariants.{Idle}
 use Rattle.front_core.specs.Planned.{is_over}
@@ -57,16 +62,39 @@ selected : (job : Job) (rows : Option (List (List Value))) → is_over (selects 
 selected job None over = given_up job outcome.AnswerLimit over
 selected job (Some rows) over = ended job (outcome.Found rows) over
 
-inserted : (job : Job) (news : List PlacedRow) (taken : Option ℤ) → is_over (inserts job (inserting_by job.targets news taken)).1 ≡ true → NoneBegun job
-inserted job news None over = elim (cases_Bool (writes_too_much job.targets news)) [
+put_rows : (job : Job) (news : List PlacedRow) → is_over (writes job (putting job.targets news)).1 ≡ true → NoneBegun job
+put_rows job news over = elim (cases_Bool (writes_too_much job.targets news)) [
   | inl much ↦ given_up job outcome.WriteSetLimit (rw much at over)
-  | inr little ↦ written job (outcome.Inserted (length news)) (puts_of job.targets news) (rw little at over)
+  | inr little ↦ written job (outcome.Done (length news)) (puts_of job.targets news) (rw little at over)
 ]
+
+inserted : (job : Job) (news : List PlacedRow) (taken : Option ℤ) → is_over (writes job (inserting_by job.targets news taken)).1 ≡ true → NoneBegun job
+inserted job news None over = put_rows job news over
 inserted job news (Some key) over = given_up job (outcome.Duplicate key) over
+
+changed : (job : Job) (made : Result (List PlacedRow) RowFault) → is_over (writes job (updating_by job.targets made)).1 ≡ true → NoneBegun job
+changed job (Ok news) over = put_rows job news over
+changed job (Err fault) over = given_up job (outcome.RowRefused fault) over
+
+updated : (job : Job) (c : Changing) (rows : Option (List (List Value))) → is_over (writes job (updating job.targets c rows)).1 ≡ true → NoneBegun job
+updated job c None over = given_up job outcome.AnswerLimit over
+updated job c (Some rows) over = changed job (changes_of c rows) over
+
+keys_gone : (job : Job) (count : ℕ) (keys : List PlacedKey) → is_over (writes job (deleting_keys job.targets job.scan count keys)).1 ≡ true → NoneBegun job
+keys_gone job count keys over = elim (cases_Bool (deletes_too_much job.targets keys)) [
+  | inl much ↦ given_up job outcome.WriteSetLimit (rw much at over)
+  | inr little ↦ written job (outcome.Done count) (dels_of job.scan.key job.targets keys) (rw little at over)
+]
+
+deleted : (job : Job) (rule : Rule) (rows : Option (List (List Value))) → is_over (writes job (deleting job.targets job.scan rule rows)).1 ≡ true → NoneBegun job
+deleted job rule None over = given_up job outcome.AnswerLimit over
+deleted job rule (Some rows) over = keys_gone job (length rows) (placed_keys rule job.scan.place rows) over
 
 concluded : (job : Job) (d : Deed) → is_over (concluded_by job d).1 ≡ true → NoneBegun job
 concluded job deed.Select over = selected job (merged_within job.scan.place job.found) over
 concluded job (deed.Insert news) over = inserted job news (taken_key job.scan.place job.found news) over
+concluded job (deed.Update c) over = updated job c (merged_within job.scan.place job.found) over
+concluded job (deed.Delete rule) over = deleted job rule (merged_within job.scan.place job.found) over
 
 undone : (s : Stage) (bs : List Branch) → length (begun_of bs) ≡ 0 → (length (undone_in s bs) == 0) ≡ true
 undone stage.Starting bs none = rw none refl

@@ -22,10 +22,12 @@ add_key entries key = insert_entry int_cmp entries key tt
 abbrev pub rising : List ℤ → List ℤ
 rising keys = keys_of (fold add_key [] keys)
 
--- an INSERT asks for the rows with its keys, a SELECT for those of its WHERE, in which columns stand without their table
+-- an INSERT asks for the rows with its keys, every other statement for those of its WHERE, in which columns stand without their table
 abbrev pub pushed : TableDef → Statement → Option Cond
 pushed def (statement.Insert insert) = Some (in_keys def (rising (map (row_key def.key) (rows_of def insert.columns insert.rows))))
 pushed def (statement.Select select) = option_map unqualified select.cond
+pushed def (statement.Update update) = option_map unqualified update.cond
+pushed def (statement.Delete delete) = option_map unqualified delete.cond
 
 -- every key of a BIGINT. It is a set to speak of: nothing ever lists it
 unfoldable pub bigints : List ℤ

@@ -1,5 +1,5 @@
 -- A statement's transaction: the links that it asks, their servers' branches, and what is done with the rows.
-use Rattle.std.specs.Prelude.{ℕ, ◌==◌, Bool, true, false, ◌&&◌, ◌||◌, not, List, [], ◌∷◌, ◌++◌, Option, Some, None, map, length, slice_get, unwrap_or, if◌then◌else◌}
+use Rattle.std.specs.Prelude.{ℕ, ◌==◌, Bool, true, false, ◌&&◌, ◌||◌, not, List, [], ◌∷◌, ◌++◌, Option, Some, None, map, length, slice_get, if◌then◌else◌}
 use Rattle.std.specs.Fmt.{decimal}
 use Rattle.std.specs.List.{filter, flat_map, list_any, range_with_len}
 use Rattle.std.specs.Option.{option_map_or}
@@ -9,9 +9,7 @@ use Rattle.sql_values.specs.declared.places.Xid.{Xid}
 use Rattle.sql_values.specs.declared.table.ColumnDef.{ColumnDef}
 use Rattle.sql_values.specs.declared.table.Kind.{Kind}
 use Rattle.sql_values.specs.declared.table.TableDef.{TableDef}
-use Rattle.sql_values.specs.declared.value.Value.{Value}
 use Rattle.part_rules.specs.declared.rule.Rule.{Rule}
-use Rattle.part_rules.specs.Placing.{part}
 use Rattle.catalog.specs.declared.link.Link.{Link}
 use Rattle.catalog.specs.declared.link.Status.{Status}
 use Rattle.catalog.specs.declared.link.Status.TheVariants as status
@@ -23,16 +21,16 @@ use Rattle.sql_text.specs.declared.statement.Statement.{Statement}
 use Rattle.stmt_plan.specs.declared.planned.Picks.{Picks}
 use Rattle.stmt_plan.specs.declared.planned.Work.{Work}
 use Rattle.stmt_plan.specs.declared.planned.Work.TheVariants as work
-use Rattle.stmt_plan.specs.Inserts.{key_name, row_key}
+use Rattle.stmt_plan.specs.Inserts.{key_name}
 use Rattle.stmt_plan.specs.Plans.{mode_of, work_of}
 use Rattle.sql_replies.specs.Outcomes.{server_name}
 use Rattle.txn_phases.specs.declared.deed.Deed.{Deed}
 use Rattle.txn_phases.specs.declared.deed.Deed.TheVariants as deed
-use Rattle.txn_phases.specs.declared.deed.PlacedRow.{PlacedRow}
 use Rattle.txn_phases.specs.declared.job.Job.{Job}
 use Rattle.txn_phases.specs.declared.job.TableScan.{TableScan}
 use Rattle.txn_phases.specs.declared.phase.Branch.{Branch}
 use Rattle.txn_phases.specs.declared.phase.Target.{Target}
+use Rattle.txn_phases.specs.Deeds.{placed}
 use Rattle.txn_phases.specs.Phases.{new_job}
 use Rattle.front_core.specs.declared.event.TxNo.{TxNo}
 use Rattle.front_core.specs.Asked.{pushed, parts_asked}
@@ -95,17 +93,15 @@ kinds_of def = map (λ (column : ColumnDef). column.kind) def.columns
 abbrev pub scan_for : TableDef → Statement → TableScan
 scan_for def s = record { key = key_name def; place = def.key; kinds = kinds_of def; cond = pushed def s; lock = mode_of s }
 
--- a new row, with its key and its partition
-abbrev pub placed : TableDef → Rule → List Value → PlacedRow
-placed def rule row = record { part = unwrap_or (part rule (row_key def.key row)) 0; key = row_key def.key row; row = row }
-
 abbrev pub deed_by : TableDef → Rule → Work → Deed
 deed_by def rule (work.Insert rows) = deed.Insert (map (placed def rule) rows)
 deed_by def rule (work.Select picks) = deed.Select
+deed_by def rule (work.Update sets) = deed.Update (record { table = def; rule = rule; sets = sets })
+deed_by def rule work.Delete = deed.Delete rule
 
 abbrev pub picks_by : Work → Option Picks
-picks_by (work.Insert rows) = None
 picks_by (work.Select picks) = Some picks
+picks_by _ = None
 
 -- the links that a statement asks
 abbrev pub targets_for : Table → Statement → List Target

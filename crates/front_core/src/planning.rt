@@ -2,8 +2,9 @@
 ghost use Rattle.std.specs.Prelude.{◌≡◌, ◌<◌, map, length, IfOk};
 ghost use Rattle.part_rules.specs.Placing.{IsRule};
 ghost use Rattle.sql_replies.specs.Outcomes.{server_name as name_meant};
-ghost use Rattle.stmt_plan.specs.Inserts.{row_key, key_name as key_named};
-ghost use Rattle.front_core.specs.Jobs.{xid_at as xid_meant, branch_at as branch_meant, branches_of as branches_meant, kinds_of as kinds_meant, placed as placed_meant, deed_by, picks_by};
+ghost use Rattle.stmt_plan.specs.Inserts.{key_name as key_named};
+ghost use Rattle.txn_phases.specs.Deeds.{placed as placed_meant};
+ghost use Rattle.front_core.specs.Jobs.{xid_at as xid_meant, branch_at as branch_meant, branches_of as branches_meant, kinds_of as kinds_meant, deed_by, picks_by};
 ghost use Rattle.front_core.specs.Planned.{run_by, job_by, scan_by};
 
 use crate::TxNo;
@@ -12,11 +13,13 @@ use crate::work::Running;
 use catalog::{Catalog, Table};
 use conf_file::HostEntry;
 use list_types::{Listed, Text};
-use part_rules::{Rule, part_of};
-use sql_values::{Cond, LockMode, Name, Row, Rows, ServerNo, TableDef, Value, Xid};
+use part_rules::Rule;
+use sql_values::{Cond, LockMode, Name, Rows, ServerNo, TableDef, Xid};
 use std::alloc::{AllocError, Global};
 use stmt_plan::{Picks, Plan, Work};
-use txn_phases::{Branch, Branches, Deed, Job, Kinds, PlacedRow, PlacedRows, TableScan, Target};
+use txn_phases::{
+    Branch, Branches, Changing, Deed, Job, Kinds, PlacedRows, Placing, TableScan, Target, place_row,
+};
 
 /// The name of a server, or nothing where there is none with this number.
 fn server_name(alloc: Global, servers: &[HostEntry], server: ServerNo) -> Result<Text, AllocError>
@@ -83,25 +86,6 @@ fn kinds_of(alloc: Global, def: &TableDef) -> Result<Kinds, AllocError>
     Ok(kinds)
 }
 
-fn key_of(row: &Row, key: u32) -> i64
-    ensures { result ≡ row_key key row.now }
-{
-    match row.as_slice().get(key as usize) {
-        Some(Value::Number(number)) => *number,
-        _ => 0,
-    }
-}
-
-/// A new row, with its key and its partition.
-fn placed(rule: &Rule, def: &TableDef, row: Row) -> PlacedRow
-    requires { IsRule rule.now }
-    ensures { result ≡ placed_meant def.now rule.now row }
-{
-    let key = key_of(&row, def.key);
-    let part = part_of(rule, key).unwrap_or(0);
-    PlacedRow { part, key, row }
-}
-
 fn placed_rows(
     alloc: Global,
     rule: &Rule,
@@ -113,9 +97,23 @@ fn placed_rows(
 {
     let mut news = Listed::new(alloc);
     for row in rows.into_vec() {
-        news.push(placed(rule, def, row))?;
+        news.push(place_row(rule, def, row))?;
     }
     Ok(news)
+}
+
+fn copied(def: &TableDef) -> Result<TableDef, AllocError>
+    ensures { IfOk result (λ copy. copy ≡ def.now) }
+{
+    def.clone()
+}
+
+/// A copy of the rule, by which rows are placed once they were found.
+fn placing_of(rule: &Rule) -> Result<Placing, AllocError>
+    requires { IsRule rule.now }
+    ensures { IfOk result (λ placing. placing ≡ rule.now) }
+{
+    Ok(Placing::new(rule.clone()?))
 }
 
 /// What is done with the rows, and the columns of the answer.
@@ -130,6 +128,15 @@ fn deed_of(alloc: Global, table: &Table, work: Work) -> Result<(Deed, Option<Pic
             Ok((Deed::Insert(news), None))
         }
         Work::Select(picks) => Ok((Deed::Select, Some(picks))),
+        Work::Update(sets) => {
+            let changing = Changing {
+                table: copied(&table.def)?,
+                rule: placing_of(&table.rule)?,
+                sets,
+            };
+            Ok((Deed::Update(changing), None))
+        }
+        Work::Delete => Ok((Deed::Delete(placing_of(&table.rule)?), None)),
     }
 }
 

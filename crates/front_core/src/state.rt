@@ -21,11 +21,12 @@ pub struct FrontState {
 impl Model for FrontState {
     ghost use Rattle.front_core.specs.Core.{Front};
     ghost use Rattle.sql_values.specs.contracts.tree.Cond as cond;
+    ghost use Rattle.sql_values.specs.contracts.tree.Expr as expr;
     ghost use Rattle.std.specs.Coded.{codes};
 
     ghost Value = { Front };
 
-    ghost coded = { Prim.hlevel (codes, cond.the_row.coded) };
+    ghost coded = { Prim.hlevel (codes, cond.the_row.coded, expr.the_row.coded) };
 
     ghost view = { λ s. record { catalog = s.catalog; drawn = s.drawn; sessions = s.sessions.entries } };
 }

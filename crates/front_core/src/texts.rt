@@ -66,6 +66,7 @@ fn is_no_memory(fault: &StmtFault) -> bool
         StmtFault::NoMemory => true,
         StmtFault::NoColumn(_)
         | StmtFault::Ambiguous(_)
+        | StmtFault::KeyChanged
         | StmtFault::ColumnCount { .. }
         | StmtFault::IsNull(_)
         | StmtFault::TypeMismatch

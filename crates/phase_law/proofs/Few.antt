@@ -8,7 +8,6 @@ use Rattle.std.proofs.lemmas.List.FromFn.{length-range_with_len}
 use Rattle.sql_values.specs.declared.places.LockMode.{LockMode}
 use Rattle.sql_values.specs.declared.places.LockMode.TheVariants.{Shared, Exclusive}
 use Rattle.sql_values.specs.declared.table.TableDef.{TableDef}
-use Rattle.sql_values.specs.declared.value.Value.{Value}
 use Rattle.sql_text.specs.declared.statement.Statement.{Statement}
 use Rattle.part_rules.specs.declared.rule.Rule.{Rule}
 use Rattle.part_rules.specs.Placing.{part_count}
@@ -19,13 +18,12 @@ use Rattle.catalog.specs.Links.{are_links, is_ok}
 use Rattle.catalog.specs.Views.{IsTable, View}
 use Rattle.catalog.proofs.Options.{and_true}
 use Rattle.stmt_plan.specs.Plans.{keeps_key, mode_of}
-use Rattle.txn_phases.specs.declared.deed.PlacedRow.{PlacedRow}
+use Rattle.plain_tables.specs.Statements.{Writes, Puts, Dels}
 use Rattle.txn_phases.specs.declared.phase.Target.{Target}
-use Rattle.txn_phases.specs.Deeds.{news_in}
-use Rattle.txn_phases.specs.Phases.{put_of, puts_of}
 use Rattle.front_core.specs.declared.event.TxNo.{TxNo}
 use Rattle.front_core.specs.Asked.{owns, parts_asked, parts_with, pushed}
 use Rattle.front_core.specs.Jobs.{branches_of, is_ng, links_asked, links_at, part_targets, servers_of, target_at, targets_for, targets_of, written}
+use Rattle.phase_law.proofs.Writes.{request_of, requests_of}
 
 -- LISTS
 
@@ -113,14 +111,16 @@ few_parts : (def : TableDef) (rule : Rule) (s : Statement) → length (parts_ask
 unfolding parts_with
 few_parts def rule s = omega (arith, fewer (owns rule (keeps_key def (pushed def s))) (range_with_len 0 (part_count rule)), length-range_with_len 0 (part_count rule))
 
-few_put : (t : Target) (rows : List (List Value)) → length (put_of t rows) ≤ 1
-few_put t [] = omega arith
-few_put t (row ∷ rows) = omega arith
+few_write : (key : List ℕ) (t : Target) (v : Writes) → length (request_of key t v) ≤ 1
+few_write key t (Puts []) = omega arith
+few_write key t (Puts (row ∷ rows)) = omega arith
+few_write key t (Dels []) = omega arith
+few_write key t (Dels (k ∷ keys)) = omega arith
 
--- so are the puts
-pub few_puts : (targets : List Target) (news : List PlacedRow) → length (puts_of targets news) ≤ length targets
-few_puts [] news = omega arith
-few_puts (t ∷ targets) news = omega (arith, length-append (put_of t (news_in news t.part)) (puts_of targets news), few_put t (news_in news t.part), few_puts targets news)
+-- so are the requests by which rows are written
+pub few_writes : (key : List ℕ) (targets : List Target) (w : ℕ → Writes) → length (requests_of key targets w) ≤ length targets
+few_writes key [] w = omega arith
+few_writes key (t ∷ targets) w = omega (arith, length-append (request_of key t (w t.part)) (requests_of key targets w), few_write key t (w t.part), few_writes key targets w)
 
 -- there are fewer links than a phase may have requests
 pub few_links : (servers : ℕ) (table : Table) (s : Statement) → IsTable servers table → length (targets_for table s) ≤ 2 ^ 35

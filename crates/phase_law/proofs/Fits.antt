@@ -19,20 +19,23 @@ use Rattle.sql_values.specs.Checks.{is_unknown, is_ambiguous, first_column, cond
 use Rattle.sql_values.specs.Columns.{may_mean, columns_meant, column_kind}
 use Rattle.sql_values.specs.Kinds.{literal_kind, are_comparable}
 use Rattle.part_rules.specs.declared.rule.Rule.{Rule}
+use Rattle.sql_text.specs.declared.statement.Delete.{Delete}
 use Rattle.sql_text.specs.declared.statement.Select.{Select}
 use Rattle.sql_text.specs.declared.statement.Statement.{Statement}
 use Rattle.sql_text.specs.declared.statement.Statement.TheVariants as statement
 use Rattle.sql_text.specs.declared.statement.Tab.{Tab}
+use Rattle.sql_text.specs.declared.statement.Update.{Update}
 use Rattle.catalog.specs.declared.tables.Table.{Table}
 use Rattle.stmt_plan.specs.declared.fault.StmtFault.{StmtFault}
-use Rattle.stmt_plan.specs.declared.fault.StmtFault.TheVariants.{NoColumn, TypeMismatch}
+use Rattle.stmt_plan.specs.declared.fault.StmtFault.TheVariants.{KeyChanged, NoColumn, TypeMismatch}
 use Rattle.stmt_plan.specs.Inserts.{rows_of, row_key, key_name, in_keys}
 use Rattle.stmt_plan.specs.Plans.{IsTable}
-use Rattle.stmt_plan.specs.Refusals.{refusal, no_column, ambiguous, column_count, value_fault, no_partition, mismatch, mismatch_in}
-use Rattle.stmt_plan.specs.Selects.{called, known_as, known_name, item_columns, bare_layer, unqualified}
+use Rattle.stmt_plan.specs.Refusals.{refusal, no_column, ambiguous, key_changed, column_count, value_fault, no_partition, mismatch, mismatch_in}
+use Rattle.stmt_plan.specs.Selects.{called, known_name, item_columns, where_columns, bare_layer, unqualified}
+use Rattle.stmt_plan.specs.Settings.{assigned_columns, settings, sets_fit, sets_key}
 use Rattle.stmt_plan.proofs.BareNames.{unqualified_means_the_same}
 use Rattle.stmt_plan.proofs.Seeks.{first-append}
-use Rattle.plain_tables.specs.Rows.{Row, holds_on}
+use Rattle.plain_tables.specs.Rows.{Row, holds_on, kept}
 use Rattle.plain_tables.proofs.Members.{at_front, behind, either, nothing}
 use Rattle.branch_store.specs.declared.fault.BranchFault.{BranchFault}
 use Rattle.branch_store.specs.declared.fault.BranchFault.TheVariants as fault
@@ -57,6 +60,7 @@ unmapped f (Some x) none = absurd (let no : Some (f x) ≡ None = none in cc)
 -- no rule is broken
 pub record Passes (def : TableDef) (rule : Rule) (s : Statement) : Type 0 where
   pub known : no_column def s ≡ None
+  pub key_stays : key_changed def s ≡ None
   pub counted : column_count def s ≡ None
   pub stored : value_fault def s ≡ None
   pub placed : no_partition def rule s ≡ None
@@ -66,11 +70,20 @@ pub passes : (def : TableDef) (rule : Rule) (s : Statement) → refusal def rule
 passes def rule s none =
     let one = or_parts (no_column def s) _ none in
     let two = or_parts (ambiguous def s) _ one.1 in
-    let three = or_parts (column_count def s) _ two.1 in
-    let four = or_parts (value_fault def s) _ three.1 in
-    let five = or_parts (no_partition def rule s) _ four.1 in
-    let six = or_parts (mismatch def s) None five.1 in
-    record { known = one.0; counted = three.0; stored = four.0; placed = five.0; comparable = six.0 }
+    let three = or_parts (key_changed def s) _ two.1 in
+    let four = or_parts (column_count def s) _ three.1 in
+    let five = or_parts (value_fault def s) _ four.1 in
+    let six = or_parts (no_partition def rule s) _ five.1 in
+    let seven = or_parts (mismatch def s) None six.1 in
+    record { known = one.0; key_stays = three.0; counted = four.0; stored = five.0; placed = six.0; comparable = seven.0 }
+
+-- an UPDATE doesn't set the key column
+unset : (b : Bool) → cond {A = Option StmtFault} b (Some KeyChanged) None ≡ None → b ≡ false
+unset true none = absurd (let no : Some KeyChanged ≡ None = none in cc)
+unset false none = refl
+
+pub keys_stay : (def : TableDef) (rule : Rule) (update : Update) → refusal def rule (statement.Update update) ≡ None → sets_key def (settings def update.sets) ≡ false
+keys_stay def rule update none = unset (sets_key def (settings def update.sets)) (passes def rule (statement.Update update) none).key_stays
 
 -- CONDITIONS
 
@@ -96,24 +109,36 @@ no_fault def m c is known fits =
 
 -- WHERE
 
-comparable_by : (b : Bool) → cond {A = Option StmtFault} b None (Some TypeMismatch) ≡ None → b ≡ true
-comparable_by true none = refl
-comparable_by false none = absurd (let no : Some TypeMismatch ≡ None = none in cc)
+comparable_by : (b : Bool) (rest : Option StmtFault) → cond {A = Option StmtFault} b rest (Some TypeMismatch) ≡ None → (b ≡ true) × (rest ≡ None)
+comparable_by true rest none = (refl, none)
+comparable_by false rest none = absurd (let no : Some TypeMismatch ≡ None = none in cc)
 
-pub where_known : (def : TableDef) (select : Select) (c : Cond) → select.cond ≡ Some c → no_column def (statement.Select select) ≡ None → AreKnown def (known_name select.tab) (cond_columns c)
-where_known def select c is none =
-    let test : ColumnName → Bool = is_unknown (known_as def select.tab ∷ []) in
-    let all : first_column test (item_columns select.items ++ cond_columns c) ≡ None =
-    ap (λ (o : Option Cond). first_column test (item_columns select.items ++ option_map_or cond_columns o [])) (sym is) ∙ unmapped NoColumn _ none in
-    first_known (known_as def select.tab ∷ []) (cond_columns c)
-    (or_parts (first_column test (item_columns select.items)) (first_column test (cond_columns c)) (sym (first-append test (item_columns select.items) (cond_columns c)) ∙ all)).1
+-- each of these columns is one of the table, under this name of it
+abbrev pub NoneUnknown : TableDef → List ℕ → List ColumnName → Type 0
+NoneUnknown def k names = first_column (is_unknown (called def k ∷ [])) names ≡ None
 
-where_fits : (def : TableDef) (select : Select) (m : List ℕ) (o : Option Cond) → select.cond ≡ o → IsTable def → no_column def (statement.Select select) ≡ None → mismatch def (statement.Select select) ≡ None → cond_fault (called def m) (option_map unqualified o) ≡ None
-where_fits def select m None is table known comparable = refl
-where_fits def select m (Some c) is table known comparable =
-    let alike = conditions_fit_alike def (known_name select.tab) m c (where_known def select c is known) in
-    let so : cond_fits (known_as def select.tab ∷ []) c ≡ true = comparable_by (cond_fits (known_as def select.tab ∷ []) c) (ap (mismatch_in (known_as def select.tab)) (sym is) ∙ comparable) in
-    no_fault def m (unqualified c) table alike.0 (alike.1 ∙ so)
+-- where all columns of a text are, those of its second part are
+last_known : (def : TableDef) (k : List ℕ) (before names : List ColumnName) → NoneUnknown def k (before ++ names) → NoneUnknown def k names
+last_known def k before names none =
+    let test : ColumnName → Bool = is_unknown (called def k ∷ []) in
+    (or_parts (first_column test before) (first_column test names) (sym (first-append test before names) ∙ none)).1
+
+-- those of WHERE: a SELECT knows its table by the name that it gives it, each other statement by the table's own
+pub select_known : (def : TableDef) (select : Select) → no_column def (statement.Select select) ≡ None → NoneUnknown def (known_name select.tab) (where_columns select.cond)
+select_known def select none = last_known def (known_name select.tab) (item_columns select.items) (where_columns select.cond) (unmapped NoColumn _ none)
+
+pub update_known : (def : TableDef) (update : Update) → no_column def (statement.Update update) ≡ None → NoneUnknown def def.name (where_columns update.cond)
+update_known def update none = last_known def def.name (assigned_columns update.sets) (where_columns update.cond) (unmapped NoColumn _ none)
+
+pub delete_known : (def : TableDef) (delete : Delete) → no_column def (statement.Delete delete) ≡ None → NoneUnknown def def.name (where_columns delete.cond)
+delete_known def delete none = unmapped NoColumn _ none
+
+-- its condition fits the table under each other name
+where_fits : (def : TableDef) (k m : List ℕ) (c : Option Cond) → IsTable def → NoneUnknown def k (where_columns c) → mismatch_in (called def k) c ≡ None → cond_fault (called def m) (option_map unqualified c) ≡ None
+where_fits def k m None is known comparable = refl
+where_fits def k m (Some c) is known comparable =
+    let alike = conditions_fit_alike def k m c (first_known (called def k ∷ []) (cond_columns c) known) in
+    no_fault def m (unqualified c) is alike.0 (alike.1 ∙ (comparable_by (cond_fits (called def k ∷ []) c) None comparable).0)
 
 -- KEYS
 
@@ -185,7 +210,10 @@ keys_fit def m keys is =
 
 pushed_fits : (def : TableDef) (rule : Rule) (m : List ℕ) (s : Statement) → IsTable def → Passes def rule s → cond_fault (called def m) (pushed def s) ≡ None
 pushed_fits def rule m (statement.Insert insert) is pass = keys_fit def m (rising (map (row_key def.key) (rows_of def insert.columns insert.rows))) is
-pushed_fits def rule m (statement.Select select) is pass = where_fits def select m select.cond refl is pass.known pass.comparable
+pushed_fits def rule m (statement.Select select) is pass = where_fits def (known_name select.tab) m select.cond is (select_known def select pass.known) pass.comparable
+pushed_fits def rule m (statement.Update update) is pass =
+    where_fits def def.name m update.cond is (update_known def update pass.known) (comparable_by (sets_fit def (settings def update.sets)) (mismatch_in def update.cond) pass.comparable).1
+pushed_fits def rule m (statement.Delete delete) is pass = where_fits def def.name m delete.cond is (delete_known def delete pass.known) pass.comparable
 
 -- the scan fits the table of each link
 pub scan_fits : (table : Table) (s : Statement) (t : Target) → IsTable table.def → refusal table.def table.rule s ≡ None → FitsScan table (scan_for table.def s) t
@@ -210,16 +238,23 @@ keys_alike def m keys row is =
     known_first (called def m ∷ []) (cond_columns (in_keys def keys)) (ap (find (is_unknown (called def m ∷ []))) columns ∙ alone_known def m (key_column def) (key_known def m is)) in
     sym (unqualified_means_the_same def tab row (in_keys def keys) known) ∙ ap (λ c. holds_on def (Some c) row) (bare_keys def keys)
 
-where_alike : (def : TableDef) (m : List ℕ) (select : Select) (row : Row) (o : Option Cond) → select.cond ≡ o → no_column def (statement.Select select) ≡ None
-    → holds_on (called def m) (option_map unqualified o) row ≡ holds_on def (option_map unqualified o) row
-where_alike def m select row None is known = refl
-where_alike def m select row (Some c) is known =
-    let all : first_column (is_unknown (known_as def select.tab ∷ [])) (cond_columns c) ≡ None = known_first (known_as def select.tab ∷ []) (cond_columns c) (where_known def select c is known) in
-    unqualified_means_the_same (called def m) select.tab row c all ∙ sym (unqualified_means_the_same def select.tab row c all)
+-- what WHERE keeps is what the condition without the names of tables keeps
+where_means : (def : TableDef) (k : List ℕ) (row : Row) (c : Option Cond) → NoneUnknown def k (where_columns c) → holds_on def (option_map unqualified c) row ≡ holds_on (called def k) c row
+where_means def k row None known = refl
+where_means def k row (Some c) known = unqualified_means_the_same def (record { table = k; alias = None }) row c known
+
+pub where_keeps : (def : TableDef) (k : List ℕ) (c : Option Cond) (rows : List Row) → NoneUnknown def k (where_columns c) → kept (called def k) c rows ≡ kept def (option_map unqualified c) rows
+where_keeps def k c rows known = filter_agree (holds_on (called def k) c) (holds_on def (option_map unqualified c)) (λ row. sym (where_means def k row c known)) rows
+
+-- under each name of the table
+where_alike : (def : TableDef) (k m : List ℕ) (row : Row) (c : Option Cond) → NoneUnknown def k (where_columns c) → holds_on (called def m) (option_map unqualified c) row ≡ holds_on def (option_map unqualified c) row
+where_alike def k m row c known = where_means (called def m) k row c known ∙ sym (where_means def k row c known)
 
 pushed_alike : (def : TableDef) (rule : Rule) (m : List ℕ) (s : Statement) (row : Row) → IsTable def → Passes def rule s → holds_on (called def m) (pushed def s) row ≡ holds_on def (pushed def s) row
 pushed_alike def rule m (statement.Insert insert) row is pass = keys_alike def m (rising (map (row_key def.key) (rows_of def insert.columns insert.rows))) row is
-pushed_alike def rule m (statement.Select select) row is pass = where_alike def m select row select.cond refl pass.known
+pushed_alike def rule m (statement.Select select) row is pass = where_alike def (known_name select.tab) m row select.cond (select_known def select pass.known)
+pushed_alike def rule m (statement.Update update) row is pass = where_alike def def.name m row update.cond (update_known def update pass.known)
+pushed_alike def rule m (statement.Delete delete) row is pass = where_alike def def.name m row delete.cond (delete_known def delete pass.known)
 
 -- a link keeps the rows that the table does
 pub pushed_keeps : (table : Table) (s : Statement) (t : Target) → IsTable table.def → refusal table.def table.rule s ≡ None → KeepsAlike table (pushed table.def s) t

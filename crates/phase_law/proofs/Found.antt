@@ -1,6 +1,5 @@
 -- What a statement's scans find, put together, is what its condition keeps of the plain table.
-use Rattle.std.proofs.Common.{◌≡◌, ℕ, List, map, Option, refl, sym, ◌∙◌, ap, subst}
-use Rattle.std.specs.List.{filter, flat_map}
+use Rattle.std.proofs.Common.{◌≡◌, ℕ, List, map, Option, sym, subst}
 use Rattle.std.specs.List.Sorted.{IsPermutation, ties}
 use Rattle.std.proofs.lemmas.List.Folds.{flat_map-map}
 use Rattle.sql_values.specs.declared.places.Interval.{Interval}
@@ -14,7 +13,7 @@ use Rattle.front_rows.specs.Comparing.{before}
 use Rattle.front_rows.proofs.KeyOrder.{sorted_rows, few_tie, same_few}
 use Rattle.front_rows.proofs.Orders.{before_ranks}
 use Rattle.plain_tables.specs.Rows.{Row, kept}
-use Rattle.plain_tables.specs.Partitions.{IsMerged, IsTable, may_keep, rows_in}
+use Rattle.plain_tables.specs.Partitions.{IsTable, may_keep, rows_in}
 use Rattle.plain_tables.proofs.Merged.{partitions_are_merged}
 use Rattle.merge_law.proofs.Scans.{found_permuted, found_keyed, rises}
 use Rattle.txn_phases.specs.Deeds.{all_rows, key_order, merged}

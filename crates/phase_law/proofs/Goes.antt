@@ -1,7 +1,6 @@
 -- Every statement that breaks no rule goes through its phases to its plain answer.
-use Rattle.std.proofs.Common.{◌≡◌, ℕ, suc, ◌+◌, ◌<◌, ◌≤◌, ◌^◌, ◌++◌, ℤ, Bool, true, false, cond, List, [], ◌∷◌, map, length, Option, Some, None, refl, sym, ap, ◌∙◌, subst, arith, inl, inr}
-use Rattle.std.specs.Prelude.{◌==◌, ◌||◌, ◌&&◌, slice_get, FitsSigned, IsSome}
-use Rattle.std.specs.Option.{option_map, option_map_or}
+use Rattle.std.proofs.Common.{◌≡◌, ℕ, ◌<◌, ◌≤◌, ◌^◌, ◌++◌, ℤ, Bool, true, false, cond, List, [], ◌∷◌, map, length, Option, Some, None, refl, sym, ap, ◌∙◌, subst, arith, inl, inr, map-id}
+use Rattle.std.specs.Prelude.{◌==◌, ◌||◌, ◌&&◌, FitsSigned}
 use Rattle.std.specs.Int.{w64}
 use Rattle.std.specs.List.{AllByRecursion, Contains, filter, flat_map, list_all, list_any, range_with_len}
 use Rattle.std.proofs.lemmas.Bool.{cases_Bool, both_ways, and_parts}
@@ -10,37 +9,39 @@ use Rattle.std.proofs.lemmas.List.{length-map}
 use Rattle.sql_values.specs.declared.places.Interval.{Interval}
 use Rattle.sql_values.specs.declared.value.Value.{Value}
 use Rattle.sql_values.specs.KeySets.{AreBigInts, AreKeys, has_key, is_within}
-use Rattle.sql_values.specs.declared.table.TableDef.{TableDef}
-use Rattle.part_rules.specs.declared.rule.Rule.{Rule}
-use Rattle.part_rules.specs.Placing.{part}
+use Rattle.sql_values.specs.declared.tree.Cond.{Cond}
+use Rattle.part_rules.specs.KeyRows.{HasOwnKeyName}
 use Rattle.part_rules.specs.Pruned.{IsPruned}
 use Rattle.catalog.specs.declared.tables.Table.{Table}
 use Rattle.catalog.specs.Views.{View}
 use Rattle.catalog_plan.specs.Plans.{table_of}
-use Rattle.sql_text.specs.declared.link.LinkAnswer.{LinkAnswer}
 use Rattle.sql_text.specs.declared.link.LinkAnswer.TheVariants as answer
+use Rattle.sql_text.specs.declared.statement.Delete.{Delete}
 use Rattle.sql_text.specs.declared.statement.Insert.{Insert}
 use Rattle.sql_text.specs.declared.statement.Select.{Select}
 use Rattle.sql_text.specs.declared.statement.Statement.{Statement}
 use Rattle.sql_text.specs.declared.statement.Statement.TheVariants as statement
+use Rattle.sql_text.specs.declared.statement.Update.{Update}
+use Rattle.stmt_plan.specs.declared.planned.SetColumn.{SetColumn}
 use Rattle.sql_values.specs.declared.places.LockMode.TheVariants.{Exclusive}
-use Rattle.stmt_plan.specs.Inserts.{rows_of}
-use Rattle.stmt_plan.specs.Plans.{keeps_key, mode_of, work_of}
+use Rattle.stmt_plan.specs.Inserts.{key_name, rows_of}
+use Rattle.stmt_plan.specs.Plans.{keeps_key, mode_of}
 use Rattle.stmt_plan.specs.Plans.{IsTable as IsDefinition}
-use Rattle.stmt_plan.specs.Refusals.{refusal, no_column}
-use Rattle.stmt_plan.specs.Selects.{known_name, picks_of, known_as, unqualified}
-use Rattle.plain_tables.specs.Inserts.{put_all}
-use Rattle.plain_tables.specs.Rows.{HasKey, Row, holds_on, kept, key_of}
-use Rattle.plain_tables.specs.Partitions.{lies_in, rows_in}
-use Rattle.plain_tables.proofs.Members.{all_of, all_by, at_front, behind, kept_passes, nothing, passes_kept}
-use Rattle.std.proofs.lemmas.List.Elements.{filter_agree}
+use Rattle.stmt_plan.specs.Refusals.{refusal}
+use Rattle.stmt_plan.specs.Selects.{known_name, picks_of, known_as}
+use Rattle.stmt_plan.specs.Settings.{settings}
+use Rattle.plain_tables.specs.Inserts.{put_all, without}
+use Rattle.plain_tables.specs.Partitions.{rows_in}
+use Rattle.plain_tables.specs.Rows.{Row, key_of, kept, FitsColumns}
+use Rattle.plain_tables.specs.Statements.{Writes, Puts, Dels}
+use Rattle.plain_tables.specs.Updates.{changed}
+use Rattle.plain_tables.proofs.Members.{all_of, all_by, at_front, behind, kept_passes}
+use Rattle.plain_tables.proofs.Scanned.{own_key}
 use Rattle.branch_store.specs.declared.branch.Change.{Change}
 use Rattle.branch_store.specs.declared.branch.Stage.TheVariants.{Active}
-use Rattle.branch_store.specs.Sound.{IsRow}
+use Rattle.branch_store.specs.Laws.{at_rest}
 use Rattle.branch_store.specs.Store.{Store, changed_table}
-use Rattle.branch_store.specs.Tables as stored
 use Rattle.txn_phases.specs.declared.deed.Outcome.{Outcome}
-use Rattle.txn_phases.specs.declared.deed.PlacedRow.{PlacedRow}
 use Rattle.txn_phases.specs.declared.job.Job.{Job}
 use Rattle.txn_phases.specs.declared.phase.Branch.{Branch}
 use Rattle.txn_phases.specs.declared.phase.Ending.{Ending}
@@ -48,36 +49,37 @@ use Rattle.txn_phases.specs.declared.phase.Ending.TheVariants.{Committed, Alone,
 use Rattle.txn_phases.specs.declared.phase.Progress.{Progress}
 use Rattle.txn_phases.specs.declared.phase.Target.{Target}
 use Rattle.txn_phases.specs.declared.requests.Ask.{Ask}
-use Rattle.txn_phases.specs.Phases.{begins, concluded, ends, gives_up, is_begun, is_shaped, puts_of, rows_if, scans_of, writes_by}
+use Rattle.txn_phases.specs.Deeds.{keys_in, news_in, placed, placed_key}
+use Rattle.txn_phases.specs.Phases.{concluded, ends, gives_up, is_shaped, rows_if, scans_of, writes_by}
 use Rattle.front_core.specs.declared.event.TxNo.{TxNo}
-use Rattle.front_core.specs.Asked.{bigints, owns, parts_asked, parts_with, pushed}
+use Rattle.front_core.specs.Asked.{bigints, owns, parts_asked, pushed}
 use Rattle.front_core.specs.Core.{table_named}
-use Rattle.front_core.specs.Jobs.{branch_at, branches_of, job_of, kinds_of, placed, scan_for, targets_for}
-use Rattle.front_core.proofs.Parting.{some_bigint, bigint_some, bigint_fits, asked_there, are_pruned}
-use Rattle.plain_sessions.specs.Exec.{Tables, rows_added, rows_found, with_rows}
+use Rattle.front_core.specs.Jobs.{branch_at, branches_of, job_of, kinds_of, scan_for, targets_for}
+use Rattle.front_core.proofs.Parting.{some_bigint, bigint_some, bigint_fits, are_pruned}
+use Rattle.plain_sessions.specs.Exec.{Tables, with_rows}
 use Rattle.plain_sessions.specs.Held.{CanBeServed, stores_of, tables_at}
-use Rattle.phase_law.specs.Laws.{AreHeld, GoesThrough, StatementsGoThrough}
+use Rattle.phase_law.specs.Laws.{AreHeld, GoesThrough, IsHeld, StatementsGoThrough}
 use Rattle.phase_law.specs.Through.{Through}
-use Rattle.phase_law.proofs.Apart.{AreApart, among}
+use Rattle.phase_law.proofs.Apart.{AreApart}
+use Rattle.phase_law.proofs.AskedParts.{changes_are_written, found_keys_are_written, new_rows_are_written}
 use Rattle.phase_law.proofs.Branches.{branches_apart, some_branch}
 use Rattle.phase_law.proofs.Endings.{HaveBegun, ends_through, gives_up_through, ends_alone, gives_up_alone}
-use Rattle.phase_law.proofs.Fits.{passes as rule_passes}
-use Rattle.phase_law.proofs.Few.{few_branches, few_links, few_puts}
+use Rattle.phase_law.proofs.Fits.{passes as rule_passes, delete_known, keys_stay, select_known, update_known, where_keeps}
+use Rattle.phase_law.proofs.Few.{few_branches, few_links, few_writes}
 use Rattle.phase_law.proofs.Found.{kept_in}
-use Rattle.phase_law.proofs.Left.{none_left, puts_left}
-use Rattle.phase_law.proofs.Lists.{is_itself}
-use Rattle.phase_law.proofs.Noted.{AllDone, all_begun, begun, counted}
+use Rattle.phase_law.proofs.Left.{changes_left, none_left}
+use Rattle.phase_law.proofs.Lists.{is_itself, map_alike}
+use Rattle.phase_law.proofs.Noted.{all_begun, begun, counted}
 use Rattle.phase_law.proofs.Phases.{scanned, same_held}
-use Rattle.phase_law.proofs.Puts.{IsDone, put_answers}
-use Rattle.phase_law.proofs.RowsFit.{rows_are_shaped}
-use Rattle.phase_law.proofs.Scans.{scanned as scan_answer}
-use Rattle.phase_law.proofs.Sent.{IsNamed, table_is_named, table_is_small, table_is_sound, asked_links, statement_scans, statement_counts, statement_puts, statement_puts_done, statement_commits, new_rows_may_be}
-use Rattle.phase_law.proofs.AskedParts.{row_is_asked}
-use Rattle.phase_law.proofs.Stages.{Served, holding, no_branches, no_changes, puts_at, stores_as}
-use Rattle.phase_law.proofs.Targets.{IsLink, link_is_there}
+use Rattle.phase_law.proofs.RowsFit.{new_rows_fit, new_rows_may_be, rows_are_shaped}
+use Rattle.phase_law.proofs.Sent.{IsNamed, table_is_named, table_is_small, table_is_sound, asked_links, statement_scans, statement_counts, statement_writes, statement_commits}
+use Rattle.phase_law.proofs.Stages.{Served, holding, no_changes, stores_as}
+use Rattle.phase_law.proofs.Targets.{link_is_there}
+use Rattle.phase_law.proofs.Updated.{changes_fit, changes_have_keys, changes_may_be}
 use Rattle.phase_law.proofs.Ways.{through_more, have_begun, begins_alone, finds_through, writes_through}
-use Rattle.phase_law.proofs.Whole.{Ways, select_goes, insert_goes, where_same, same_rows, nothing_put}
-use Rattle.phase_law.proofs.Words.{tables_after}
+use Rattle.phase_law.proofs.Whole.{Ways, delete_goes, insert_goes, select_goes, update_goes}
+use Rattle.phase_law.proofs.Writes.{IsWritten, changes_at, requests_of}
+use Rattle.phase_law.proofs.WritesServed.{AreDone}
 
 -- A SET OF KEYS FOR EACH TEST
 
@@ -140,17 +142,9 @@ counted_flat : (f : Target → List (List Value)) (targets : List Target) → co
 counted_flat f [] = refl
 counted_flat f (t ∷ targets) = ap (λ l. rows_if t.counts (f t) ++ l) (counted_flat f targets)
 
-done_all : (answers : List LinkAnswer) → AllByRecursion IsDone answers → AllDone answers
-done_all [] all = tt
-done_all (a ∷ answers) all = (ap is_begun all.0.1, done_all answers all.1)
-
 no_parts : {A B : Type 0} (f : A → B) (xs : List A) → [] ≡ map f xs → xs ≡ []
 no_parts f [] h = refl
 no_parts f (x ∷ xs) h = absurd (let no_one : [] ≡ f x ∷ map f xs = h in cc)
-
-no_rows_added : (xs : List Row) → ((x : Row) → Contains xs x → ⊥) → xs ≡ []
-no_rows_added [] none = refl
-no_rows_added (x ∷ xs) none = absurd (none x (at_front x xs))
 
 nothing_open : (catalog : View) (tx : TxNo) → branches_of catalog tx [] ≡ []
 nothing_open catalog tx = ap (map (branch_at catalog tx)) (none_pass (range_with_len 0 (length catalog.servers)))
@@ -206,8 +200,8 @@ module _ (catalog : View) (tables : Tables) (n : ℕ) (tx : TxNo) (number : ℕ)
   shaped_rows [] = tt
   shaped_rows (t ∷ targets) = (
     rows_are_shaped table.def (rows_at t)
-        (all_by (IsRow table.def) (rows_at t) (λ row c.
-        all_of (IsRow table.def) (tables number) row (held number table named.at).fit
+        (all_by (FitsColumns table.def) (rows_at t) (λ row c.
+        all_of (FitsColumns table.def) (tables number) row (held number table named.at).fit
         (kept_passes _ (tables number) row (kept_passes _ (rows_in table.def table.rule t.part (tables number)) row c).0).0)),
     shaped_rows targets,
   )
@@ -250,7 +244,7 @@ module _ (catalog : View) (tables : Tables) (n : ℕ) (tx : TxNo) (number : ℕ)
     with_branches = record {
       deed_is = refl;
       targets_are = refl;
-      place_is = refl;
+      scan_is = refl;
       found_is = found_parts;
       ended = λ o.
           through_more 3 n false (open_at no_changes) (ends found_job o).0 (ends found_job o).1 (stores_of catalog tables) Committed o
@@ -266,24 +260,22 @@ module _ (catalog : View) (tables : Tables) (n : ℕ) (tx : TxNo) (number : ℕ)
       stays = λ h. cc;
     }
 
-    -- the new rows are put and committed
-    written_with : mode_of s ≡ Exclusive → (o : Outcome)
-        → Through 4 n false (open_at no_changes) (writes_by found_job o (puts_of asked (map (placed table.def table.rule) (rows_added table.def s))))
-        (stores_of catalog (with_rows tables number (put_all table.def (tables number) (rows_added table.def s)))) Committed o
-    written_with exclusive o =
-        let news = map (placed table.def table.rule) (rows_added table.def s) in
-        let left = put_all table.def (tables number) (rows_added table.def s) in
-        let puts : Served n (open_at no_changes) (puts_of asked news) (put_answers asked news) (open_at (puts_at asked news)) =
-        subst (λ h. Served n (stores_as servers (tables_at catalog tables) h) (puts_of asked news) (put_answers asked news) (open_at (puts_at asked news))) (sym (same_held n branches Active no_changes))
-        (subst (λ h. Served n (stores_as servers (tables_at catalog tables) (holding n branches Active no_changes)) (puts_of asked news) (put_answers asked news) (stores_as servers (tables_at catalog tables) h))
-        (sym (same_held n branches Active (puts_at asked news))) (statement_puts catalog tables n tx number table s served held is passes)) in
-        let few = few_puts asked news in
+    -- rows are written and committed
+    written_with : (w : ℕ → Writes) (left : List Row) → IsWritten table.def table.rule (owns table.rule test) (tables number) w left → mode_of s ≡ Exclusive → (o : Outcome)
+        → Through 4 n false (open_at no_changes) (writes_by found_job o (requests_of (key_name table.def) asked w)) (stores_of catalog (with_rows tables number left)) Committed o
+    written_with w left written exclusive o =
+        let asks : List Ask = requests_of (key_name table.def) asked w in
+        let done : AreDone n (open_at no_changes) asks (open_at (changes_at asked w)) =
+        subst (λ h. AreDone n (stores_as servers (tables_at catalog tables) h) asks (open_at (changes_at asked w))) (sym (same_held n branches Active no_changes))
+        (subst (λ h. AreDone n (stores_as servers (tables_at catalog tables) (holding n branches Active no_changes)) asks (stores_as servers (tables_at catalog tables) h)) (sym (same_held n branches Active (changes_at asked w)))
+        (statement_writes catalog tables n tx number table s served held is passes w left written)) in
+        let few = few_writes (key_name table.def) asked w in
         let few_now = few_asked in
-        writes_through 3 n (open_at no_changes) found_job o (puts_of asked news) (put_answers asked news) (open_at (puts_at asked news)) (stores_of catalog (with_rows tables number left)) Committed o puts
-        (done_all (put_answers asked news) (statement_puts_done catalog tables n tx number table s served held is passes)) (omega (arith, few, few_now))
-        (subst (λ last. Through 3 n false (open_at (puts_at asked news)) (ends found_job o) last Committed o)
-        (puts_left catalog tx asked news (tables_at catalog tables) (tables_at catalog (with_rows tables number left)) (λ server below. statement_commits catalog tables n tx number table s served held is passes server exclusive))
-        (ends_through n servers (tables_at catalog tables) (puts_at asked news) found_job have o))
+        writes_through 3 n (open_at no_changes) found_job o asks done.answers (open_at (changes_at asked w)) (stores_of catalog (with_rows tables number left)) Committed o done.served done.done (omega (arith, few, few_now))
+        (subst (λ last. Through 3 n false (open_at (changes_at asked w)) (ends found_job o) last Committed o)
+        (changes_left catalog tx asked w (tables_at catalog tables) (tables_at catalog (with_rows tables number left))
+        (λ server below. statement_commits catalog tables n tx number table s served held is passes w left written server exclusive))
+        (ends_through n servers (tables_at catalog tables) (changes_at asked w) found_job have o))
 
   -- WITHOUT BRANCHES
 
@@ -301,7 +293,7 @@ module _ (catalog : View) (tables : Tables) (n : ℕ) (tx : TxNo) (number : ℕ)
     alone = record {
       deed_is = refl;
       targets_are = refl;
-      place_is = refl;
+      scan_is = refl;
       found_is = ap (map (kept_in table.def table.rule (tables number) (pushed table.def s))) (sym no_part);
       ended = λ o. ends_alone 4 n (stores_of catalog tables) job o no_branch;
       given_up = λ o. gives_up_alone 4 n (stores_of catalog tables) job o no_branch;
@@ -312,32 +304,20 @@ module _ (catalog : View) (tables : Tables) (n : ℕ) (tx : TxNo) (number : ℕ)
       stays = λ h. cc;
     }
 
-    none_added : rows_added table.def s ≡ []
-    none_added =
-        no_rows_added (rows_added table.def s) (λ row c.
-        let may = new_rows_may_be catalog tables n tx number table s served held is passes in
-        let place = placed_somewhere (part table.rule (key_of table.def row)) (all_of (λ r. IsSome (part table.rule (key_of table.def r))) (rows_added table.def s) row may.placed c) in
-        never_asked place.0 (row_is_asked table.def table.rule s row place.0 c (all_of (HasKey table.def) (rows_added table.def s) row may.keyed c) (lies_here table.def table.rule row place.0 place.1)))
-      where
-        placed_somewhere : (o : Option ℕ) → IsSome o → (p : ℕ) × (o ≡ Some p)
-        placed_somewhere None h = absurd (cc)
-        placed_somewhere (Some p) h = (p, refl)
+    -- nothing that is written leaves the tables as they were
+    unchanged : (w : ℕ → Writes) (left : List Row) → IsWritten table.def table.rule (owns table.rule test) (tables number) w left → mode_of s ≡ Exclusive → stores_of catalog tables ≡ stores_of catalog (with_rows tables number left)
+    unchanged w left written exclusive =
+        map_alike (λ server. at_rest (tables_at catalog tables server)) (λ server. at_rest (tables_at catalog (with_rows tables number left) server)) (range_with_len 0 servers)
+        (λ server c.
+        let changes : map (changed_table (changes_at asked w server)) (tables_at catalog tables server) ≡ tables_at catalog tables server =
+        ap (λ (ts : List Target). map (changed_table (changes_at ts w server)) (tables_at catalog tables server)) none ∙ map-id (tables_at catalog tables server) in
+        ap at_rest (sym changes ∙ statement_commits catalog tables n tx number table s served held is passes w left written server exclusive))
 
-        lies_here : (def : TableDef) (rule : Rule) (row : Row) (p : ℕ) → part rule (key_of def row) ≡ Some p → lies_in def rule p row ≡ true
-        lies_here def rule row p at = ap (λ (o : Option ℕ). option_map_or (λ q. q == p) o false) at ∙ is_itself p
-
-        never_asked : (p : ℕ) → owns table.rule test p ≡ true → ⊥
-        never_asked p own = nothing p (subst (λ l. Contains l p) no_part (asked_there table.rule test p (served.tables number table named.at).rule own))
-
-    written_alone : (o : Outcome)
-        → Through 4 n false (stores_of catalog tables) (writes_by job o (puts_of asked (map (placed table.def table.rule) (rows_added table.def s))))
-        (stores_of catalog (with_rows tables number (put_all table.def (tables number) (rows_added table.def s)))) Alone o
-    written_alone o =
-        let news = map (placed table.def table.rule) (rows_added table.def s) in
-        subst (λ (ts : List Target). Through 4 n false (stores_of catalog tables) (writes_by job o (puts_of ts news)) (stores_of catalog (with_rows tables number (put_all table.def (tables number) (rows_added table.def s)))) Alone o) (sym none)
-        (subst (λ (added : List Row). Through 4 n false (stores_of catalog tables) (ends job o) (stores_of catalog (with_rows tables number (put_all table.def (tables number) added))) Alone o) (sym none_added)
-        (subst (λ (left : List Row). Through 4 n false (stores_of catalog tables) (ends job o) (stores_of catalog (with_rows tables number left)) Alone o) (sym (nothing_put table.def (tables number)))
-        (subst (λ (ts : Tables). Through 4 n false (stores_of catalog tables) (ends job o) (stores_of catalog ts) Alone o) (sym (same_rows tables number)) (ends_alone 4 n (stores_of catalog tables) job o no_branch))))
+    written_alone : (w : ℕ → Writes) (left : List Row) → IsWritten table.def table.rule (owns table.rule test) (tables number) w left → mode_of s ≡ Exclusive → (o : Outcome)
+        → Through 4 n false (stores_of catalog tables) (writes_by job o (requests_of (key_name table.def) asked w)) (stores_of catalog (with_rows tables number left)) Alone o
+    written_alone w left written exclusive o =
+        subst (λ (ts : List Target). Through 4 n false (stores_of catalog tables) (writes_by job o (requests_of (key_name table.def) ts w)) (stores_of catalog (with_rows tables number left)) Alone o) (sym none)
+        (subst (λ (last : List Store). Through 4 n false (stores_of catalog tables) (ends job o) last Alone o) (unchanged w left written exclusive) (ends_alone 4 n (stores_of catalog tables) job o no_branch))
 
   -- BY THE LINKS THAT ARE ASKED
 
@@ -347,47 +327,92 @@ module _ (catalog : View) (tables : Tables) (n : ℕ) (tx : TxNo) (number : ℕ)
     pub stores : List Store
     pub how : Ending
     pub ways : Ways catalog tables n tx number table s sound (held number table named.at).rows_of passes (singles test) (singles_are test) pruned job_there stores how
-    pub written : mode_of s ≡ Exclusive → (o : Outcome)
-        → Through 4 n false stores (writes_by job_there o (puts_of asked (map (placed table.def table.rule) (rows_added table.def s))))
-        (stores_of catalog (with_rows tables number (put_all table.def (tables number) (rows_added table.def s)))) how o
+    pub written : (w : ℕ → Writes) (left : List Row) → IsWritten table.def table.rule (owns table.rule test) (tables number) w left → mode_of s ≡ Exclusive → (o : Outcome)
+        → Through 4 n false stores (writes_by job_there o (requests_of (key_name table.def) asked w)) (stores_of catalog (with_rows tables number left)) how o
 
   comes_by : (links : List Target) → asked ≡ links → Comes
-  comes_by [] none = record { job_there = job; stores = stores_of catalog tables; how = Alone; ways = alone none; written = λ exclusive o. written_alone none o }
-  comes_by (first ∷ rest) some = record { job_there = found_job; stores = open_at no_changes; how = Committed; ways = with_branches first rest some; written = λ exclusive o. written_with first rest some exclusive o }
+  comes_by [] none = record { job_there = job; stores = stores_of catalog tables; how = Alone; ways = alone none; written = λ w left written exclusive o. written_alone none w left written exclusive o }
+  comes_by (first ∷ rest) some = record { job_there = found_job; stores = open_at no_changes; how = Committed; ways = with_branches first rest some; written = λ w left written exclusive o. written_with first rest some w left written exclusive o }
 
   pub comes : Comes
   comes = comes_by asked refl
 
--- a SELECT
-select_through : (catalog : View) (tables : Tables) (n : ℕ) (tx : TxNo) (number : ℕ) (table : Table) (select : Select) → CanBeServed catalog → AreHeld catalog tables
-    → table_named catalog.tables (table_of (statement.Select select)) ≡ Some (number, table) → refusal table.def table.rule (statement.Select select) ≡ None
-    → GoesThrough catalog tables n tx number table (statement.Select select)
-select_through catalog tables n tx number table select served held is passes =
-    let s = statement.Select select in
-    let here = comes catalog tables n tx number table s served held is passes in
-    let def = table.def in
-    select_goes catalog tables n tx number table s (sound catalog tables n tx number table s served held is passes) (held number table (named catalog tables n tx number table s served held is passes).at).rows_of passes (singles (keeps_key def (pushed def s))) (singles_are (keeps_key def (pushed def s)))
-    (pruned catalog tables n tx number table s served held is passes)
-    (record { table = known_name select.tab; picks = picks_of (known_as def select.tab) select.items }) refl
-    (filter_agree (holds_on (known_as def select.tab) select.cond) (holds_on def (option_map unqualified select.cond)) (λ row. where_same def select row select.cond refl (passes_known def table.rule s passes)) (tables number))
-    here.job_there here.stores here.how here.ways
-  where
-    passes_known : (def : TableDef) (rule : Rule) (t : Statement) → refusal def rule t ≡ None → no_column def t ≡ None
-    passes_known def rule t none = (rule_passes def rule t none).known
+-- STATEMENTS
 
--- an INSERT
-insert_through : (catalog : View) (tables : Tables) (n : ℕ) (tx : TxNo) (number : ℕ) (table : Table) (insert : Insert) → CanBeServed catalog → AreHeld catalog tables
-    → table_named catalog.tables (table_of (statement.Insert insert)) ≡ Some (number, table) → refusal table.def table.rule (statement.Insert insert) ≡ None
-    → GoesThrough catalog tables n tx number table (statement.Insert insert)
-insert_through catalog tables n tx number table insert served held is passes =
-    let s = statement.Insert insert in
-    let here = comes catalog tables n tx number table s served held is passes in
-    let def = table.def in
-    insert_goes catalog tables n tx number table s (sound catalog tables n tx number table s served held is passes) (held number table (named catalog tables n tx number table s served held is passes).at).rows_of passes (singles (keeps_key def (pushed def s))) (singles_are (keeps_key def (pushed def s)))
-    (pruned catalog tables n tx number table s served held is passes)
-    (rows_of def insert.columns insert.rows) refl refl here.job_there here.stores here.how here.ways (λ o free. here.written refl o)
+module _ (catalog : View) (tables : Tables) (n : ℕ) (tx : TxNo) (number : ℕ) (table : Table) (served : CanBeServed catalog) (held : AreHeld catalog tables) where
+  -- a statement on a table that its name finds, and which breaks no rule
+  abbrev IsOn : Statement → Type 0
+  IsOn s = (table_named catalog.tables (table_of s) ≡ Some (number, table)) × (refusal table.def table.rule s ≡ None)
+
+  abbrev rows : List Row
+  rows = tables number
+
+  abbrev rows_held : (s : Statement) → IsOn s → IsHeld table rows
+  rows_held s on = held number table (named catalog tables n tx number table s served held on.0 on.1).at
+
+  own : (s : Statement) → IsOn s → HasOwnKeyName table.def
+  own s on = own_key table.def (sound catalog tables n tx number table s served held on.0 on.1)
+
+  -- the keys for which it asks, as a list of intervals
+  abbrev asked_keys : Statement → List Interval
+  asked_keys s = singles (keeps_key table.def (pushed table.def s))
+
+  abbrev asked_are : (s : Statement) → AreKeys (asked_keys s) (keeps_key table.def (pushed table.def s))
+  asked_are s = singles_are (keeps_key table.def (pushed table.def s))
+
+  select_through : (select : Select) → IsOn (statement.Select select) → GoesThrough catalog tables n tx number table (statement.Select select)
+  select_through select on =
+      let s = statement.Select select in
+      let here = comes catalog tables n tx number table s served held on.0 on.1 in
+      select_goes catalog tables n tx number table s (sound catalog tables n tx number table s served held on.0 on.1) (rows_held s on).rows_of on.1 (asked_keys s) (asked_are s)
+      (pruned catalog tables n tx number table s served held on.0 on.1)
+      (record { table = known_name select.tab; picks = picks_of (known_as table.def select.tab) select.items }) refl
+      (where_keeps table.def (known_name select.tab) select.cond rows (select_known table.def select (rule_passes table.def table.rule s on.1).known))
+      here.job_there here.stores here.how here.ways
+
+  insert_through : (insert : Insert) → IsOn (statement.Insert insert) → GoesThrough catalog tables n tx number table (statement.Insert insert)
+  insert_through insert on =
+      let s = statement.Insert insert in
+      let here = comes catalog tables n tx number table s served held on.0 on.1 in
+      let is_sound = sound catalog tables n tx number table s served held on.0 on.1 in
+      let news : List Row = rows_of table.def insert.columns insert.rows in
+      let small = table_is_small catalog number table served (named catalog tables n tx number table s served held on.0 on.1).at in
+      insert_goes catalog tables n tx number table s is_sound (rows_held s on).rows_of on.1 (asked_keys s) (asked_are s) (pruned catalog tables n tx number table s served held on.0 on.1)
+      news refl refl here.job_there here.stores here.how here.ways
+      (λ o free.
+      here.written (λ p. Puts (news_in (map (placed table.def table.rule) news) p)) (put_all table.def rows news)
+      (new_rows_are_written table.def table.rule insert rows (rows_held s on).rows_of (new_rows_may_be table.def table.rule insert is_sound small on.1) (new_rows_fit table.def table.rule insert is_sound on.1)) refl o)
+
+  update_through : (update : Update) → IsOn (statement.Update update) → GoesThrough catalog tables n tx number table (statement.Update update)
+  update_through update on =
+      let s = statement.Update update in
+      let here = comes catalog tables n tx number table s served held on.0 on.1 in
+      let sets : List SetColumn = settings table.def update.sets in
+      let c : Option Cond = pushed table.def s in
+      let stay = keys_stay table.def table.rule update on.1 in
+      update_goes catalog tables n tx number table s (sound catalog tables n tx number table s served held on.0 on.1) (rows_held s on).rows_of on.1 (asked_keys s) (asked_are s)
+      (pruned catalog tables n tx number table s served held on.0 on.1) sets refl
+      (where_keeps table.def table.def.name update.cond rows (update_known table.def update (rule_passes table.def table.rule s on.1).known)) here.job_there here.stores here.how here.ways
+      (λ o news set.
+      let puts : List Row = changed (kept table.def c rows) news in
+      here.written (λ p. Puts (news_in (map (placed table.def table.rule) puts) p)) (put_all table.def rows puts)
+      (changes_are_written table.def table.rule c rows puts (own s on) (rows_held s on).rows_of (changes_may_be table.def table.rule c sets rows news (rows_held s on).rows_of stay set)
+      (changes_fit table.def c sets rows news (rows_held s on).fit set) (changes_have_keys table.def sets (kept table.def c rows) news stay set)) refl o)
+
+  delete_through : (delete : Delete) → IsOn (statement.Delete delete) → GoesThrough catalog tables n tx number table (statement.Delete delete)
+  delete_through delete on =
+      let s = statement.Delete delete in
+      let here = comes catalog tables n tx number table s served held on.0 on.1 in
+      let c : Option Cond = pushed table.def s in
+      let gone : List ℤ = map (key_of table.def) (kept table.def c rows) in
+      delete_goes catalog tables n tx number table s (sound catalog tables n tx number table s served held on.0 on.1) (rows_held s on).rows_of on.1 (asked_keys s) (asked_are s)
+      (pruned catalog tables n tx number table s served held on.0 on.1) refl
+      (where_keeps table.def table.def.name delete.cond rows (delete_known table.def delete (rule_passes table.def table.rule s on.1).known)) here.job_there here.stores here.how here.ways
+      (λ o. here.written (λ p. Dels (keys_in (map (placed_key table.rule) gone) p)) (without table.def gone rows) (found_keys_are_written table.def table.rule c rows (own s on) (rows_held s on).rows_of) refl o)
 
 -- every statement
 pub statements_go_through : StatementsGoThrough
-statements_go_through catalog tables n tx number table (statement.Select select) served held is passes = select_through catalog tables n tx number table select served held is passes
-statements_go_through catalog tables n tx number table (statement.Insert insert) served held is passes = insert_through catalog tables n tx number table insert served held is passes
+statements_go_through catalog tables n tx number table (statement.Select select) served held is passes = select_through catalog tables n tx number table served held select (is, passes)
+statements_go_through catalog tables n tx number table (statement.Insert insert) served held is passes = insert_through catalog tables n tx number table served held insert (is, passes)
+statements_go_through catalog tables n tx number table (statement.Update update) served held is passes = update_through catalog tables n tx number table served held update (is, passes)
+statements_go_through catalog tables n tx number table (statement.Delete delete) served held is passes = delete_through catalog tables n tx number table served held delete (is, passes)

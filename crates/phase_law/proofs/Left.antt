@@ -1,23 +1,23 @@
--- What a commit leaves of the tables: what was put at each server, and nothing where nothing was.
+-- What a commit leaves of the tables: what was changed at each server, and nothing where nothing was.
 use Rattle.std.proofs.Common.{◌≡◌, ◌<◌, ℕ, ◌==◌, Bool, true, false, List, [], ◌∷◌, ◌++◌, map, length, refl, sym, ap, ◌∙◌, cond, map-id}
 use Rattle.std.specs.List.{list_any}
+use Rattle.plain_tables.specs.Statements.{Writes}
 use Rattle.branch_store.specs.declared.branch.Change.{Change}
 use Rattle.branch_store.specs.Store.{changed_table}
 use Rattle.branch_store.specs.Tables.{Table}
 use Rattle.catalog.specs.Views.{View}
-use Rattle.txn_phases.specs.declared.deed.PlacedRow.{PlacedRow}
 use Rattle.txn_phases.specs.declared.phase.Branch.{Branch}
 use Rattle.txn_phases.specs.declared.phase.Target.{Target}
-use Rattle.txn_phases.specs.Deeds.{news_in}
 use Rattle.front_core.specs.declared.event.TxNo.{TxNo}
 use Rattle.front_core.specs.Jobs.{branches_of}
 use Rattle.phase_law.proofs.Apart.{among, or_false}
 use Rattle.phase_law.proofs.Branches.{one_among}
 use Rattle.phase_law.proofs.Noted.{all_begun}
-use Rattle.phase_law.proofs.Stages.{no_branches, no_changes, put_at, puts_at, stores_as}
+use Rattle.phase_law.proofs.Stages.{no_branches, no_changes, stores_as}
 use Rattle.phase_law.proofs.Stores.{same_stores}
 use Rattle.phase_law.proofs.Ways.{among_begun}
 use Rattle.phase_law.proofs.Words.{changes_there, tables_after}
+use Rattle.phase_law.proofs.Writes.{change_of, changes_at}
 
 -- no change changes nothing
 unchanged : (bs : List Branch) (tables : ℕ → List Table) (s : ℕ) → tables_after bs no_changes tables s ≡ tables s
@@ -30,29 +30,29 @@ unchanged bs tables s = by (among s bs)
 pub none_left : (servers : ℕ) (bs : List Branch) (tables : ℕ → List Table) → stores_as servers (tables_after bs no_changes tables) no_branches ≡ stores_as servers tables no_branches
 none_left servers bs tables = same_stores servers (tables_after bs no_changes tables) tables no_branches no_branches (λ s below. unchanged bs tables s) (λ s below. refl)
 
--- nothing is put where no link is
-nothing_put : (targets : List Target) (news : List PlacedRow) (s : ℕ) → list_any (λ (t : Target). t.server == s) targets ≡ false → puts_at targets news s ≡ []
-nothing_put [] news s none = refl
-nothing_put (t ∷ targets) news s none =
+-- nothing is changed where no link is
+nothing_changed : (targets : List Target) (w : ℕ → Writes) (s : ℕ) → list_any (λ (t : Target). t.server == s) targets ≡ false → changes_at targets w s ≡ []
+nothing_changed [] w s none = refl
+nothing_changed (t ∷ targets) w s none =
     let two = or_false (t.server == s) (list_any (λ (u : Target). u.server == s) targets) none in
-    ap (λ b. cond b (put_at t (news_in news t.part)) [] ++ puts_at targets news s) two.0 ∙ nothing_put targets news s two.1
+    ap (λ b. cond b (change_of t (w t.part)) [] ++ changes_at targets w s) two.0 ∙ nothing_changed targets w s two.1
 
 nothing_by : (b : Bool) → ◌≡◌ {A = List Change} (cond b [] []) []
 nothing_by true = refl
 nothing_by false = refl
 
-put_there : (catalog : View) (tx : TxNo) (targets : List Target) (news : List PlacedRow) (s : ℕ) → s < length catalog.servers → changes_there (all_begun (branches_of catalog tx targets)) (puts_at targets news) s ≡ puts_at targets news s
-put_there catalog tx targets news s below = by (list_any (λ (t : Target). t.server == s) targets) refl
+changed_there : (catalog : View) (tx : TxNo) (targets : List Target) (w : ℕ → Writes) (s : ℕ) → s < length catalog.servers → changes_there (all_begun (branches_of catalog tx targets)) (changes_at targets w) s ≡ changes_at targets w s
+changed_there catalog tx targets w s below = by (list_any (λ (t : Target). t.server == s) targets) refl
   where
-    by : (b : Bool) → list_any (λ (t : Target). t.server == s) targets ≡ b → changes_there (all_begun (branches_of catalog tx targets)) (puts_at targets news) s ≡ puts_at targets news s
-    by true is = ap (λ b. cond b (puts_at targets news s) []) (among_begun s (branches_of catalog tx targets) ∙ one_among catalog tx targets s below is)
+    by : (b : Bool) → list_any (λ (t : Target). t.server == s) targets ≡ b → changes_there (all_begun (branches_of catalog tx targets)) (changes_at targets w) s ≡ changes_at targets w s
+    by true is = ap (λ b. cond b (changes_at targets w s) []) (among_begun s (branches_of catalog tx targets) ∙ one_among catalog tx targets s below is)
     by false is =
-        let none : puts_at targets news s ≡ [] = nothing_put targets news s is in
+        let none : changes_at targets w s ≡ [] = nothing_changed targets w s is in
         ap (λ (l : List Change). cond (among s (all_begun (branches_of catalog tx targets))) l []) none ∙ (nothing_by (among s (all_begun (branches_of catalog tx targets))) ∙ sym none)
 
--- what was put, where it leaves these tables at each server
-pub puts_left : (catalog : View) (tx : TxNo) (targets : List Target) (news : List PlacedRow) (tables more : ℕ → List Table) → ((s : ℕ) → s < length catalog.servers → map (changed_table (puts_at targets news s)) (tables s) ≡ more s)
-    → stores_as (length catalog.servers) (tables_after (all_begun (branches_of catalog tx targets)) (puts_at targets news) tables) no_branches ≡ stores_as (length catalog.servers) more no_branches
-puts_left catalog tx targets news tables more each =
-    same_stores (length catalog.servers) (tables_after (all_begun (branches_of catalog tx targets)) (puts_at targets news) tables) more no_branches no_branches
-    (λ s below. ap (λ l. map (changed_table l) (tables s)) (put_there catalog tx targets news s below) ∙ each s below) (λ s below. refl)
+-- what was changed, where it leaves these tables at each server
+pub changes_left : (catalog : View) (tx : TxNo) (targets : List Target) (w : ℕ → Writes) (tables more : ℕ → List Table) → ((s : ℕ) → s < length catalog.servers → map (changed_table (changes_at targets w s)) (tables s) ≡ more s)
+    → stores_as (length catalog.servers) (tables_after (all_begun (branches_of catalog tx targets)) (changes_at targets w) tables) no_branches ≡ stores_as (length catalog.servers) more no_branches
+changes_left catalog tx targets w tables more each =
+    same_stores (length catalog.servers) (tables_after (all_begun (branches_of catalog tx targets)) (changes_at targets w) tables) more no_branches no_branches
+    (λ s below. ap (λ l. map (changed_table l) (tables s)) (changed_there catalog tx targets w s below) ∙ each s below) (λ s below. refl)

@@ -3,6 +3,7 @@ pub mod AskedParts
 pub mod Bare
 pub mod Branches
 pub mod Commits
+pub mod Dels
 pub mod Endings
 pub mod Few
 pub mod Fits
@@ -25,6 +26,9 @@ pub mod Servable
 pub mod Stages
 pub mod Stores
 pub mod Targets
+pub mod Updated
 pub mod Ways
 pub mod Whole
 pub mod Words
+pub mod Writes
+pub mod WritesServed

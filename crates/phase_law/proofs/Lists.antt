@@ -49,13 +49,6 @@ module _ {X : Type 0} where
   set_same (y ∷ xs) (suc i) x at = ap (λ l. y ∷ l) (set_same xs i x at)
 
 module _ {X Y : Type 0} where
-  pub in_map : (f : X → Y) (xs : List X) (y : Y) → Contains (map f xs) y → (x : X) × Contains xs x × (f x ≡ y)
-  in_map f [] y c = nothing y c
-  in_map f (x ∷ xs) y c = elim (either (f x) y (map f xs) c) [
-    | inl same ↦ (x, at_front x xs, same)
-    | inr later ↦ let rest = in_map f xs y later in (rest.0, behind x rest.0 xs rest.1, rest.2)
-  ]
-
   pub into_map : (f : X → Y) (xs : List X) (x : X) → Contains xs x → Contains (map f xs) (f x)
   into_map f [] x c = nothing x c
   into_map f (z ∷ xs) x c = elim (either z x xs c) [
@@ -80,6 +73,14 @@ flat_filter p f (x ∷ xs) none =
       | inl stays ↦ rw stays (ap (λ l. f x ++ l) rest)
       | inr goes ↦ rw (goes, none x (at_front x xs) goes) rest
     ]
+
+-- nothing passes a test that no element passes
+pub none_kept : {X : Type 0} (test : X → Bool) (xs : List X) → ((x : X) → Contains xs x → test x ≡ true → ⊥) → filter test xs ≡ []
+none_kept test [] none = refl
+none_kept test (x ∷ xs) none = elim (cases_Bool (test x)) [
+  | inl here ↦ absurd (none x (at_front x xs) here)
+  | inr other ↦ rw other (none_kept test xs (λ z c. none z (behind x z xs c)))
+]
 
 -- NUMBERS FROM ONE ON
 

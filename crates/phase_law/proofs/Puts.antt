@@ -1,45 +1,32 @@
--- The new rows of a statement, put at the links of their partitions.
-use Rattle.std.proofs.Common.{◌≡◌, ℕ, ◌==◌, Bool, true, false, List, [], ◌∷◌, ◌++◌, map, set, filter, Some, None, refl, sym, ◌∙◌, ap, subst, inl, inr, cond, find, flat_map, length}
-use Rattle.std.specs.Prelude.{slice_get, ℤ}
-use Rattle.std.specs.List.{AllByRecursion, Contains, list_all}
+-- Rows that are put: those of each partition in the order of their keys, and what they leave there.
+use Rattle.std.proofs.Common.{◌≡◌, ℕ, ◌==◌, ℤ, Bool, true, false, List, [], ◌∷◌, map, filter, Option, Some, None, refl, sym, ◌∙◌, ap, subst, inl, inr, unwrap_or}
+use Rattle.std.specs.Prelude.{IsSome}
+use Rattle.std.specs.List.{AllByRecursion, Contains}
+use Rattle.std.specs.List.Sorted.{IsStrictlySortedBy}
+use Rattle.std.specs.Map.{keys_of, values_of}
 use Rattle.std.specs.BTreeMap.{insert_entry}
+use Rattle.std.specs.Option.{option_map_or}
 use Rattle.std.specs.Ordering.{int_cmp, match_ordering}
 use Rattle.std.specs.declared.cmp.Ordering.{Ordering}
 use Rattle.std.specs.declared.cmp.Ordering.TheVariants.{Less, Equal, Greater}
-use Rattle.std.proofs.lemmas.Bool.{cases_Bool, and_from}
-use Rattle.std.proofs.lemmas.List.{append-nil, append_assoc}
-use Rattle.sql_values.specs.declared.places.Xid.{Xid}
+use Rattle.std.proofs.lemmas.Bool.{cases_Bool, false≢true}
+use Rattle.std.proofs.lemmas.List.Kept.{IsStrictlySortedBy-filter}
 use Rattle.sql_values.specs.declared.table.TableDef.{TableDef}
 use Rattle.part_rules.specs.declared.rule.Rule.{Rule}
-use Rattle.sql_text.specs.declared.link.LinkAnswer.{LinkAnswer}
-use Rattle.sql_text.specs.declared.link.LinkAnswer.TheVariants.{Done}
-use Rattle.sql_text.specs.declared.link.LinkRequest.TheVariants as request
-use Rattle.catalog.specs.declared.tables.Table.{Table}
-use Rattle.catalog.specs.Views.{View}
-use Rattle.plain_tables.specs.Rows.{Row}
-use Rattle.plain_tables.proofs.Members.{at_front, behind}
-use Rattle.branch_store.specs.declared.branch.Branch as backend
-use Rattle.branch_store.specs.declared.branch.Change.{Change}
-use Rattle.branch_store.specs.declared.branch.Change.TheVariants.{Put}
-use Rattle.branch_store.specs.declared.branch.Stage.TheVariants.{Active}
-use Rattle.branch_store.specs.declared.fault.BranchFault.TheVariants.{TypeMismatch}
-use Rattle.branch_store.specs.Changes.{is_called}
-use Rattle.branch_store.specs.Faults.{is_row, rows_fault}
-use Rattle.branch_store.specs.Sound.{IsRow}
-use Rattle.branch_store.specs.Store.{Store, store_step, working, unless_fault, with_change, with_branches, add_change}
-use Rattle.branch_store.specs.Tables as stored
+use Rattle.part_rules.specs.Placing.{part}
+use Rattle.plain_tables.specs.Inserts.{put, put_all, AreRows}
+use Rattle.plain_tables.specs.Partitions.{lies_in, rows_in, IsTable}
+use Rattle.plain_tables.specs.Rows.{Row, key_of, by_key, Rises, FitsColumns}
+use Rattle.plain_tables.specs.Statements.{Puts}
+use Rattle.plain_tables.proofs.Inserted.{puts_are_placed, put_rises}
+use Rattle.branch_store.specs.Keyed.{AreKeyed}
+use Rattle.branch_store.proofs.Keyed.{inserted, inserted_keyed}
 use Rattle.txn_phases.specs.declared.deed.PlacedRow.{PlacedRow}
-use Rattle.txn_phases.specs.declared.phase.Target.{Target}
 use Rattle.txn_phases.specs.Deeds.{news_at, news_in, put_by_key}
-use Rattle.txn_phases.specs.Phases.{puts_of, put_of}
-use Rattle.front_core.specs.declared.event.TxNo.{TxNo}
-use Rattle.front_core.specs.Jobs.{branches_of, xid_at, placed}
-use Rattle.plain_sessions.specs.Exec.{Tables}
-use Rattle.plain_sessions.specs.Held.{CanBeServed, tables_at}
-use Rattle.phase_law.proofs.Lists.{is_itself, is_other}
-use Rattle.phase_law.proofs.Scans.{active, is_owned, work_there}
-use Rattle.phase_law.proofs.Stages.{stores_as, holding, branch_there, no_changes, put_at, puts_at, Served}
-use Rattle.phase_law.proofs.Targets.{IsLink, link_is_there, branch_of, target_branch, store_of, store_set}
+use Rattle.txn_phases.specs.Deeds.{placed}
+use Rattle.phase_law.proofs.Lists.{none_kept}
+use Rattle.phase_law.proofs.PutOrder.{put_in_order}
+use Rattle.phase_law.proofs.Writes.{IsWritten}
 
 -- THE NEW ROWS OF A PARTITION
 
@@ -78,124 +65,78 @@ pub placed_have : (P : Row → Type 0) (def : TableDef) (rule : Rule) (rows : Li
 placed_have P def rule [] all = tt
 placed_have P def rule (row ∷ rows) all = (all.0, placed_have P def rule rows all.1)
 
--- ONE PUT
+-- IN THE ORDER OF THEIR KEYS
 
-all_rows : (def : TableDef) (rows : List Row) → AllByRecursion (IsRow def) rows → list_all (is_row def) rows ≡ true
-all_rows def [] all = refl
-all_rows def (row ∷ rows) all = and_from _ _ all.0 (all_rows def rows all.1)
+module _ (def : TableDef) where
+  abbrev Keyed : List (ℤ × Row) → Type 0
+  Keyed es = AllByRecursion (λ (entry : ℤ × Row). entry.0 ≡ key_of def entry.1) es
 
-pub rows_fit : (def : TableDef) (rows : List Row) → AllByRecursion (IsRow def) rows → rows_fault def rows ≡ None
-rows_fit def rows all = ap (λ b. cond b None (Some TypeMismatch)) (all_rows def rows all)
+  keys_are : (es : List (ℤ × Row)) → Keyed es → keys_of es ≡ map (key_of def) (values_of es)
+  keys_are [] keyed = refl
+  keys_are (e ∷ es) keyed = let here : e.0 ≡ key_of def e.1 = keyed.0 in ap (λ k. k ∷ keys_of es) here ∙ ap (λ ks. key_of def e.1 ∷ ks) (keys_are es keyed.1)
 
--- rows of the table are put: the branch has one more change
-put_there : (tables : List stored.Table) (xid : Xid) (n : ℕ) (changes : List Change) (name : List ℕ) (rows : List Row) (table : stored.Table) → find (λ (u : stored.Table). is_called name u.def) tables ≡ Some table
-    → AllByRecursion (IsRow table.def) rows
-    → store_step (record { tables = tables; branches = active xid n changes ∷ [] }) n (request.Put name rows) ≡ (record { tables = tables; branches = active xid n (changes ++ Put name rows ∷ []) ∷ [] }, Done (length rows))
-put_there tables xid n changes name rows table there fit =
-    let store : Store = record { tables = tables; branches = active xid n changes ∷ [] } in
-    let act : List Change → stored.Table → Store × LinkAnswer = λ cs u. unless_fault store (rows_fault u.def rows) (with_change store n (Put name rows), Done (length rows)) in
-    ap (λ w. working store w act) (work_there tables xid n changes name table there)
-    ∙ (ap (λ f. unless_fault store f (with_change store n (Put name rows), Done (length rows))) (rows_fit table.def rows fit)
-    ∙ ap (λ b. (with_branches store (cond b (add_change (Put name rows) (active xid n changes) ∷ []) (active xid n changes ∷ [])), Done (length rows))) (is_owned xid n changes))
+  mapped_less : (row : Row) (rows : List Row) → AllByRecursion (λ r. by_key def row r ≡ Less) rows → AllByRecursion (λ k. int_cmp (key_of def row) k ≡ Less) (map (key_of def) rows)
+  mapped_less row [] all = tt
+  mapped_less row (r ∷ rows) all = (all.0, mapped_less row rows all.1)
 
--- ALL PUTS
+  pub keys_rise : (rows : List Row) → Rises def rows → IsStrictlySortedBy int_cmp (map (key_of def) rows)
+  unfolding IsStrictlySortedBy
+  keys_rise [] rises = tt
+  keys_rise (row ∷ rows) rises = (mapped_less row rows rises.0, keys_rise rows rises.1)
 
--- the answer of a link, where rows are put there
-abbrev pub done_at : List Row → List LinkAnswer
-done_at [] = []
-done_at (row ∷ rows) = Done (length (row ∷ rows)) ∷ []
+  are_keyed : (es : List (ℤ × Row)) → Keyed es → Rises def (values_of es) → AreKeyed def es
+  are_keyed es keyed rises = record { keyed = keyed; ordered = subst (IsStrictlySortedBy int_cmp) (sym (keys_are es keyed)) (keys_rise (values_of es) rises) }
 
-abbrev pub put_answers : List Target → List PlacedRow → List LinkAnswer
-put_answers targets news = flat_map (λ (t : Target). done_at (news_in news t.part)) targets
+  -- sorted by key they are as they are put
+  sorted_as_put : (rule : Rule) (rows : List Row) (es : List (ℤ × Row)) → Keyed es → Rises def (values_of es) → values_of (put_by_key (map (placed def rule) rows) es) ≡ put_all def (values_of es) rows
+  unfolding put_all
+  sorted_as_put rule [] es keyed rises = refl
+  sorted_as_put rule (row ∷ rows) es keyed rises =
+      let more : List (ℤ × Row) = insert_entry int_cmp es (key_of def row) row in
+      let made : values_of more ≡ put def (values_of es) row = inserted def row (key_of def row) es refl (are_keyed es keyed rises) in
+      sorted_as_put rule rows more (inserted_keyed def row (key_of def row) es refl keyed) (subst (Rises def) (sym made) (put_rises def (values_of es) row rises))
+      ∙ ap (λ l. put_all def l rows) made
 
-abbrev pub IsDone : LinkAnswer → Type 0
-IsDone answer = (count : ℕ) × (answer ≡ Done count)
+pub same_part : (o : Option ℕ) (p : ℕ) → IsSome o → (unwrap_or o 0 == p) ≡ option_map_or (λ q. q == p) o false
+same_part None p some = absurd (false≢true some)
+same_part (Some q) p some = refl
 
-done_first : (rows : List Row) (answers : List LinkAnswer) → AllByRecursion IsDone answers → AllByRecursion IsDone (done_at rows ++ answers)
-done_first [] answers all = all
-done_first (row ∷ rows) answers all = ((length (row ∷ rows), refl), all)
+-- the new rows of a partition are those that lie in it
+news_placed : (def : TableDef) (rule : Rule) (rows : List Row) (p : ℕ) → AllByRecursion (λ row. IsSome (part rule (key_of def row))) rows → news_at (map (placed def rule) rows) p ≡ map (placed def rule) (rows_in def rule p rows)
+news_placed def rule [] p all = refl
+news_placed def rule (row ∷ rows) p all =
+    let same : ((placed def rule row).part == p) ≡ lies_in def rule p row = same_part (part rule (key_of def row)) p all.0 in
+    let rest = news_placed def rule rows p all.1 in
+    elim (cases_Bool (lies_in def rule p row)) [
+      | inl inside ↦ rw (same, inside) (ap (λ l. placed def rule row ∷ l) rest)
+      | inr outside ↦ rw (same, outside) rest
+    ]
 
-pub puts_are_done : (targets : List Target) (news : List PlacedRow) → AllByRecursion IsDone (put_answers targets news)
-puts_are_done [] news = tt
-puts_are_done (t ∷ targets) news = done_first (news_in news t.part) (put_answers targets news) (puts_are_done targets news)
+-- in the order of their keys
+pub news_sorted : (def : TableDef) (rule : Rule) (rows : List Row) (p : ℕ) → AllByRecursion (λ row. IsSome (part rule (key_of def row))) rows → news_in (map (placed def rule) rows) p ≡ put_all def [] (rows_in def rule p rows)
+unfolding IsStrictlySortedBy
+news_sorted def rule rows p all = ap (λ l. values_of (put_by_key l [])) (news_placed def rule rows p all) ∙ sorted_as_put def rule (rows_in def rule p rows) [] tt tt
 
-module _ (catalog : View) (tables : Tables) (tx : TxNo) (n number : ℕ) (table : Table) (targets : List Target) (news : List PlacedRow)
-    (served : CanBeServed catalog) (at : slice_get catalog.tables number ≡ Some table) (links : (t : Target) → Contains targets t → IsLink table.parts t)
-    (fit : AllByRecursion (λ (new : PlacedRow). IsRow table.def new.row) news) where
-  -- the stores while the transaction is open, with these changes
-  abbrev changed_stores : (ℕ → List Change) → List Store
-  changed_stores changes = stores_as (length catalog.servers) (tables_at catalog tables) (holding n (branches_of catalog tx targets) Active changes)
+-- what a partition has of the plain table after the new rows are put
+pub part_after : (def : TableDef) (rule : Rule) (rows added : List Row) (p : ℕ) → IsTable def rule rows → AreRows def rule added
+    → put_all def (rows_in def rule p rows) (news_in (map (placed def rule) added) p) ≡ rows_in def rule p (put_all def rows added)
+part_after def rule rows added p table news =
+    ap (put_all def (rows_in def rule p rows)) (news_sorted def rule added p news.placed)
+    ∙ (put_in_order def (rows_in def rule p rows) (rows_in def rule p added) (IsStrictlySortedBy-filter (by_key def) (lies_in def rule p) rows table.rises)
+    ∙ sym (puts_are_placed def rule rows added p table news))
 
-  -- so many changes more at the server of a link
-  abbrev more_at : Target → List Row → (ℕ → List Change) → ℕ → List Change
-  more_at t rows changes s = changes s ++ cond (t.server == s) (put_at t rows) []
+-- ROWS THAT ARE WRITTEN
 
-  abbrev with_all : (ℕ → List Change) → List Target → ℕ → List Change
-  with_all changes asked s = changes s ++ puts_at asked news s
+-- none is put in a partition in which none lies
+none_placed : (def : TableDef) (rule : Rule) (news : List Row) (p : ℕ) → AreRows def rule news → ((row : Row) → Contains news row → lies_in def rule p row ≡ true → ⊥) → news_in (map (placed def rule) news) p ≡ []
+unfolding put_all
+none_placed def rule news p are none = news_sorted def rule news p are.placed ∙ ap (put_all def []) (none_kept (lies_in def rule p) news none)
 
-  -- the new rows of a link's partition are put there
-  one_put : (t : Target) (row : Row) (rows : List Row) (changes : ℕ → List Change) → Contains targets t → AllByRecursion (IsRow table.def) (row ∷ rows) →
-      (store : Store) × (after : Store) × (slice_get (changed_stores changes) t.server ≡ Some store) × (store_step store n (request.Put t.remote (row ∷ rows)) ≡ (after, Done (length (row ∷ rows))))
-      × (set (changed_stores changes) t.server after ≡ changed_stores (more_at t (row ∷ rows) changes))
-  one_put t row rows changes here fits =
-      let there = link_is_there catalog tables number table t served at (links t here) in
-      let bs : List backend.Branch = holding n (branches_of catalog tx targets) Active changes t.server in
-      let with_these : List backend.Branch → Store = λ bs. record { tables = tables_at catalog tables t.server; branches = bs } in
-      let more : ℕ → List Change = more_at t (row ∷ rows) changes in
-      let put_now : List Change = changes t.server ++ Put t.remote (row ∷ rows) ∷ [] in
-      let one : bs ≡ branch_of catalog tx n Active (changes t.server) t.server ∷ [] = target_branch catalog tx targets n Active changes t here there.within in
-      let step : store_step (with_these bs) n (request.Put t.remote (row ∷ rows)) ≡ (with_these (branch_of catalog tx n Active put_now t.server ∷ []), Done (length (row ∷ rows))) =
-      subst (λ cs. store_step (with_these cs) n (request.Put t.remote (row ∷ rows)) ≡ (with_these (branch_of catalog tx n Active put_now t.server ∷ []), Done (length (row ∷ rows)))) (sym one)
-      (put_there (tables_at catalog tables t.server) (xid_at catalog tx t.server) n (changes t.server) t.remote (row ∷ rows) _ there.found fits) in
-      let added : more t.server ≡ put_now = ap (λ b. changes t.server ++ cond b (Put t.remote (row ∷ rows) ∷ []) []) (is_itself t.server) in
-      let after_it : holding n (branches_of catalog tx targets) Active more t.server ≡ branch_of catalog tx n Active put_now t.server ∷ [] =
-      target_branch catalog tx targets n Active more t here there.within ∙ ap (λ cs. branch_of catalog tx n Active cs t.server ∷ []) added in
-      let apart : (k : ℕ) → (k ≡ t.server → ⊥) → holding n (branches_of catalog tx targets) Active more k ≡ holding n (branches_of catalog tx targets) Active changes k = λ k not.
-      let other : (t.server == k) ≡ false = is_other t.server k (λ same. not (sym same)) in
-      let same : more k ≡ changes k = ap (λ b. changes k ++ cond b (Put t.remote (row ∷ rows) ∷ []) []) other ∙ append-nil (changes k) in
-      ap (λ cs. flat_map (branch_there n Active cs k) (branches_of catalog tx targets)) same in (
-        with_these bs,
-        with_these (branch_of catalog tx n Active put_now t.server ∷ []),
-        store_of (length catalog.servers) (tables_at catalog tables) (holding n (branches_of catalog tx targets) Active changes) t.server there.within,
-        step,
-        store_set (length catalog.servers) (tables_at catalog tables) (holding n (branches_of catalog tx targets) Active changes) (holding n (branches_of catalog tx targets) Active more) t.server
-            (branch_of catalog tx n Active put_now t.server ∷ []) there.within after_it apart,
-      )
-
-  -- changes that are the same at each server
-  alike : (one other : ℕ → List Change) → ((s : ℕ) → one s ≡ other s) → one ≡ other
-  alike one other same = λ i s. same s i
-
-  none_at : (b : Bool) (t : Target) → cond {A = List Change} b (put_at t []) [] ≡ []
-  none_at true t = refl
-  none_at false t = refl
-
-  first_put : (t : Target) (asked : List Target) (changes : ℕ → List Change) (rows : List Row) → news_in news t.part ≡ rows → Contains targets t → AllByRecursion (IsRow table.def) rows
-      → ((before : ℕ → List Change) → Served n (changed_stores before) (puts_of asked news) (put_answers asked news) (changed_stores (with_all before asked)))
-      → Served n (changed_stores changes) (put_of t rows ++ puts_of asked news) (done_at rows ++ put_answers asked news) (changed_stores (λ s. changes s ++ (cond (t.server == s) (put_at t rows) [] ++ puts_at asked news s)))
-  first_put t asked changes [] is here fits rest =
-      let same : with_all changes asked ≡ (λ s. changes s ++ (cond (t.server == s) (put_at t []) [] ++ puts_at asked news s)) =
-      alike (with_all changes asked) (λ s. changes s ++ (cond (t.server == s) (put_at t []) [] ++ puts_at asked news s)) (λ s. ap (λ l. changes s ++ (l ++ puts_at asked news s)) (sym (none_at (t.server == s) t))) in
-      subst (λ cs. Served n (changed_stores changes) (puts_of asked news) (put_answers asked news) (changed_stores cs)) same (rest changes)
-  first_put t asked changes (row ∷ rows) is here fits rest =
-      let one = one_put t row rows changes here fits in
-      let more : ℕ → List Change = more_at t (row ∷ rows) changes in
-      let same : with_all more asked ≡ (λ s. changes s ++ (cond (t.server == s) (put_at t (row ∷ rows)) [] ++ puts_at asked news s)) =
-      alike (with_all more asked) (λ s. changes s ++ (cond (t.server == s) (put_at t (row ∷ rows)) [] ++ puts_at asked news s))
-      (λ s. append_assoc (changes s) (cond (t.server == s) (put_at t (row ∷ rows)) []) (puts_at asked news s)) in (
-        one.0,
-        one.1,
-        one.2,
-        one.3,
-        subst (λ stores. Served n stores (puts_of asked news) (put_answers asked news) (changed_stores (λ s. changes s ++ (cond (t.server == s) (put_at t (row ∷ rows)) [] ++ puts_at asked news s)))) (sym one.4)
-            (subst (λ cs. Served n (changed_stores more) (puts_of asked news) (put_answers asked news) (changed_stores cs)) same (rest more)),
-      )
-
-  puts_from : (asked : List Target) → ((t : Target) → Contains asked t → Contains targets t) → (changes : ℕ → List Change) → Served n (changed_stores changes) (puts_of asked news) (put_answers asked news) (changed_stores (with_all changes asked))
-  puts_from [] among changes = ap changed_stores (alike (with_all changes []) changes (λ s. append-nil (changes s)))
-  puts_from (t ∷ asked) among changes =
-      first_put t asked changes (news_in news t.part) refl (among t (at_front t asked)) (news_have (IsRow table.def) news t.part fit) (puts_from asked (λ u c. among u (behind t u asked c)))
-
-  -- each link gets its partition's rows, and then the branches have these changes
-  pub puts_are_served : Served n (changed_stores no_changes) (puts_of targets news) (put_answers targets news) (changed_stores (puts_at targets news))
-  puts_are_served = puts_from targets (λ t c. c) no_changes
+-- each partition's rows are put there, where these are partitions that are asked
+pub puts_are_written : (def : TableDef) (rule : Rule) (asked : ℕ → Bool) (rows news : List Row) → IsTable def rule rows → AreRows def rule news → AllByRecursion (FitsColumns def) news
+    → ((row : Row) (p : ℕ) → Contains news row → lies_in def rule p row ≡ true → asked p ≡ true) → IsWritten def rule asked rows (λ p. Puts (news_in (map (placed def rule) news) p)) (put_all def rows news)
+puts_are_written def rule asked rows news table are fit within = record {
+  fit = λ p. news_have (FitsColumns def) (map (placed def rule) news) p (placed_have (FitsColumns def) def rule news fit);
+  leaves = λ p. part_after def rule rows news p table are;
+  elsewhere = λ p out. none_placed def rule news p are (λ row c lies. false≢true (sym out ∙ within row p c lies));
+}

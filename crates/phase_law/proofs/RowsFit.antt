@@ -14,8 +14,7 @@ use Rattle.std.proofs.lemmas.Option.{slice_get-get_or}
 use Rattle.sql_values.specs.declared.literal.Literal.{Literal}
 use Rattle.sql_values.specs.declared.literal.Literal.TheVariants as literal
 use Rattle.sql_values.specs.declared.storage.StoreFault.{StoreFault}
-use Rattle.sql_values.specs.declared.storage.StoreFault.TheVariants.{IsNull, OutOfRange, TooLong}
-use Rattle.sql_values.specs.declared.storage.StoreFault.TheVariants as store
+use Rattle.sql_values.specs.declared.storage.StoreFault.TheVariants.{TooLong}
 use Rattle.sql_values.specs.declared.table.ColumnDef.{ColumnDef}
 use Rattle.sql_values.specs.declared.table.Kind.{Kind}
 use Rattle.sql_values.specs.declared.table.Kind.TheVariants.{BigInt, VarChar}
@@ -23,12 +22,11 @@ use Rattle.sql_values.specs.declared.table.TableDef.{TableDef}
 use Rattle.sql_values.specs.declared.value.Value.{Value}
 use Rattle.sql_values.specs.declared.value.Value.TheVariants as value
 use Rattle.sql_values.specs.Conditions.{literal_of}
-use Rattle.sql_values.specs.Expressions.{is_big_int}
 use Rattle.sql_values.specs.Laws.{is_of}
 use Rattle.sql_values.specs.Storing.{stored, is_within}
 use Rattle.part_rules.specs.declared.rule.Rule.{Rule}
 use Rattle.part_rules.specs.Placing.{part}
-use Rattle.sql_text.specs.declared.statement.Statement.{Statement}
+use Rattle.sql_text.specs.declared.statement.Insert.{Insert}
 use Rattle.sql_text.specs.declared.statement.Statement.TheVariants as statement
 use Rattle.stmt_plan.specs.declared.fault.StmtFault.{StmtFault}
 use Rattle.stmt_plan.specs.declared.fault.StmtFault.TheVariants.{ColumnCount, NoPartition}
@@ -37,45 +35,27 @@ use Rattle.stmt_plan.specs.Inserts.{is_named, targets, slots, has_each_once, mis
 use Rattle.stmt_plan.specs.Plans.{IsTable}
 use Rattle.stmt_plan.specs.Refusals.{refusal}
 use Rattle.plain_tables.specs.Inserts.{AreRows}
-use Rattle.plain_tables.specs.Rows.{Row, key_of, HasKey}
+use Rattle.plain_tables.specs.Rows.{Row, key_of, HasKey, FitsColumns, can_hold}
+use Rattle.plain_tables.proofs.Fitting.{stored_again}
 use Rattle.plain_tables.proofs.Members.{at_front, behind, either, nothing, in_lists, all_of, all_by}
-use Rattle.branch_store.specs.Faults.{fits}
 use Rattle.branch_store.specs.Opening.{is_definition}
-use Rattle.branch_store.specs.Sound.{IsRow}
 use Rattle.branch_store.proofs.Keys.{rows_have_keys}
 use Rattle.txn_phases.specs.Phases.{is_short, is_shaped}
 use Rattle.front_core.specs.Jobs.{kinds_of}
-use Rattle.plain_sessions.specs.Exec.{rows_added}
 use Rattle.phase_law.proofs.Fits.{or_parts, unmapped, passes}
 use Rattle.phase_law.proofs.Lists.{is_same, is_itself, at_place, place_of, slice_get_there}
 
 -- VALUES
 
--- what is stored may be stored again
-stored_by : (b : Bool) (v w : Value) (fault : StoreFault) → cond {A = Result Value StoreFault} b (Ok v) (Err fault) ≡ Ok w → (b ≡ true) × (v ≡ w)
-stored_by true v w fault is = (refl, let same : Ok v ≡ Ok w = is in cc)
-stored_by false v w fault is = absurd (let no : Err fault ≡ Ok w = is in cc)
-
-stored_again : (l : Literal) (kind : Kind) (v : Value) → stored l kind ≡ Ok v → is_ok (stored (literal_of v) kind) ≡ true
-stored_again literal.Null kind v is = absurd (let no : Err IsNull ≡ Ok v = is in cc)
-stored_again (literal.Number z) BigInt v is =
-    let both = stored_by (is_big_int z) (value.Number z) v OutOfRange is in
-    subst (λ w. is_ok (stored (literal_of w) BigInt) ≡ true) both.1 (ap (λ b. is_ok (cond {A = Result Value StoreFault} b (Ok (value.Number z)) (Err OutOfRange))) both.0)
-stored_again (literal.Number z) (VarChar most) v is = absurd (let no : Err store.TypeMismatch ≡ Ok v = is in cc)
-stored_again (literal.Text t) BigInt v is = absurd (let no : Err store.TypeMismatch ≡ Ok v = is in cc)
-stored_again (literal.Text t) (VarChar most) v is =
-    let both = stored_by (is_within most t) (value.Text t) v TooLong is in
-    subst (λ w. is_ok (stored (literal_of w) (VarChar most)) ≡ true) both.1 (ap (λ b. is_ok (cond {A = Result Value StoreFault} b (Ok (value.Text t)) (Err TooLong))) both.0)
-
 cell_stored : (r : Result Value StoreFault) (c : ColumnDef) (row : ℕ) → option_map (fault_of_store c.name row) (result_err r) ≡ None → (v : Value) × (r ≡ Ok v) × (held r ≡ v)
 cell_stored (Ok v) c row none = (v, refl, refl)
 cell_stored (Err fault) c row none = absurd (let no : Some (fault_of_store c.name row fault) ≡ None = none in cc)
 
--- what a column has of a literal that is stored fits it
-slot_by : (literals : List Literal) (c : ColumnDef) (i : ℕ) (l : Literal) (v : Value) → slice_get literals i ≡ Some l → stored l c.kind ≡ Ok v → held (stored l c.kind) ≡ v → fits (c, slot_value literals (c, Some i)) ≡ true
+-- a column can hold what it has of a literal that is stored
+slot_by : (literals : List Literal) (c : ColumnDef) (i : ℕ) (l : Literal) (v : Value) → slice_get literals i ≡ Some l → stored l c.kind ≡ Ok v → held (stored l c.kind) ≡ v → can_hold (c, slot_value literals (c, Some i)) ≡ true
 slot_by literals c i l v there is held_is =
     let shown : slot_value literals (c, Some i) ≡ held (stored l c.kind) = ap (λ (o : Option Literal). held (stored (unwrap_or o literal.Null) c.kind)) there in
-    ap (λ x. fits (c, x)) (shown ∙ held_is) ∙ stored_again l c.kind v is
+    ap (λ x. can_hold (c, x)) (shown ∙ held_is) ∙ stored_again l c.kind v is
 
 -- CELLS
 
@@ -119,7 +99,7 @@ one_column def c d is there here same =
 module _ (def : TableDef) (is : IsTable def) (among : List ColumnDef) (within : (c : ColumnDef) → Contains among c → Contains def.columns c) (row : ℕ) (literals : List Literal)
     (long : length literals ≡ length among) (none : row_fault row (zip among literals) ≡ None) where
   -- the value of a column that has a place
-  slot_fits : (c : ColumnDef) (place : Option ℕ) → Contains def.columns c → position (is_named c.name) among ≡ place → is_some place ≡ true → fits (c, slot_value literals (c, place)) ≡ true
+  slot_fits : (c : ColumnDef) (place : Option ℕ) → Contains def.columns c → position (is_named c.name) among ≡ place → is_some place ≡ true → can_hold (c, slot_value literals (c, place)) ≡ true
   slot_fits c None there at some = absurd (false≢true some)
   slot_fits c (Some i) there at some =
       let stands = position-Some (is_named c.name) among i c at in
@@ -133,13 +113,13 @@ module _ (def : TableDef) (is : IsTable def) (among : List ColumnDef) (within : 
       slot_by literals c i literal_there.0 stored_there.0 literal_there.1 stored_there.1 stored_there.2
 
   slots_fit : (columns : List ColumnDef) → ((c : ColumnDef) → Contains columns c → Contains def.columns c) → list_all (λ (slot : ColumnDef × Option ℕ). is_some slot.1) (slots columns among) ≡ true
-      → list_all fits (zip columns (row_of (slots columns among) literals)) ≡ true
+      → list_all can_hold (zip columns (row_of (slots columns among) literals)) ≡ true
   slots_fit [] part_of all = refl
   slots_fit (c ∷ columns) part_of all =
       let both = and_parts (is_some (position (is_named c.name) among)) (list_all (λ (slot : ColumnDef × Option ℕ). is_some slot.1) (slots columns among)) all in
       and_from _ _ (slot_fits c (position (is_named c.name) among) (part_of c (at_front c columns)) refl both.0) (slots_fit columns (λ d at. part_of d (behind c d columns at)) both.1)
 
-  row_fits : list_all (λ (slot : ColumnDef × Option ℕ). is_some slot.1) (slots def.columns among) ≡ true → IsRow def (row_of (slots def.columns among) literals)
+  row_fits : list_all (λ (slot : ColumnDef × Option ℕ). is_some slot.1) (slots def.columns among) ≡ true → FitsColumns def (row_of (slots def.columns among) literals)
   row_fits all =
       let count : length (row_of (slots def.columns among) literals) ≡ length def.columns = length-map (slots def.columns among) (slot_value literals) ∙ length-map def.columns (λ (column : ColumnDef). (column, position (is_named column.name) among)) in
       let test : (length (row_of (slots def.columns among) literals) == length def.columns) ≡ true = ap (λ k. k == length def.columns) count ∙ is_itself (length def.columns) in
@@ -153,7 +133,7 @@ counted_first false rest row none = absurd (let no : Some (ColumnCount row) ≡ 
 
 rows_fit : (def : TableDef) (among : List ColumnDef) (row : ℕ) (rows : List (List Literal)) → IsTable def → ((c : ColumnDef) → Contains among c → Contains def.columns c) → length among ≡ length def.columns
     → list_all (λ (slot : ColumnDef × Option ℕ). is_some slot.1) (slots def.columns among) ≡ true → miscounted (length def.columns) row rows ≡ None → rows_fault among row rows ≡ None
-    → AllByRecursion (IsRow def) (map (row_of (slots def.columns among)) rows)
+    → AllByRecursion (FitsColumns def) (map (row_of (slots def.columns among)) rows)
 rows_fit def among row [] is within long all counted none = tt
 rows_fit def among row (literals ∷ rows) is within long all counted none =
     let count = counted_first (length literals == length def.columns) (miscounted (length def.columns) (row + 1) rows) row counted in
@@ -163,9 +143,8 @@ rows_fit def among row (literals ∷ rows) is within long all counted none =
     )
 
 -- each new row has a value for each column
-pub rows_are_rows : (def : TableDef) (rule : Rule) (s : Statement) → IsTable def → refusal def rule s ≡ None → AllByRecursion (IsRow def) (rows_added def s)
-rows_are_rows def rule (statement.Select select) is none = tt
-rows_are_rows def rule (statement.Insert insert) is none =
+pub new_rows_fit : (def : TableDef) (rule : Rule) (insert : Insert) → IsTable def → refusal def rule (statement.Insert insert) ≡ None → AllByRecursion (FitsColumns def) (rows_of def insert.columns insert.rows)
+new_rows_fit def rule insert is none =
     let pass = passes def rule (statement.Insert insert) none in
     let among : List ColumnDef = targets def.columns insert.columns in
     let count = counted_first (has_each_once def.columns among) (miscounted (length def.columns) 1 insert.rows) 1 pass.counted in
@@ -185,15 +164,14 @@ rows_placed def rule (row ∷ rows) none =
     (first.0, rows_placed def rule rows first.1)
 
 -- and a key that lies in a partition
-pub rows_may_be_inserted : (def : TableDef) (rule : Rule) (s : Statement) → IsTable def → is_definition def ≡ true → refusal def rule s ≡ None → AreRows def rule (rows_added def s)
-rows_may_be_inserted def rule s is small none =
-    let fit = rows_are_rows def rule s is none in
-    record { keyed = all_by (HasKey def) (rows_added def s) (λ row c. rows_have_keys def row small (all_of (IsRow def) (rows_added def s) row fit c)); placed = by_kind s none }
-  where
-    by_kind : (t : Statement) → refusal def rule t ≡ None → AllByRecursion (λ row. IsSome (part rule (key_of def row))) (rows_added def t)
-    by_kind (statement.Select select) none = tt
-    by_kind (statement.Insert insert) none =
-        rows_placed def rule (rows_of def insert.columns insert.rows) (unmapped NoPartition _ (passes def rule (statement.Insert insert) none).placed)
+pub new_rows_may_be : (def : TableDef) (rule : Rule) (insert : Insert) → IsTable def → is_definition def ≡ true → refusal def rule (statement.Insert insert) ≡ None → AreRows def rule (rows_of def insert.columns insert.rows)
+new_rows_may_be def rule insert is small none =
+    let news : List Row = rows_of def insert.columns insert.rows in
+    let fit = new_rows_fit def rule insert is none in
+    record {
+      keyed = all_by (HasKey def) news (λ row c. rows_have_keys def row small (all_of (FitsColumns def) news row fit c));
+      placed = rows_placed def rule news (unmapped NoPartition _ (passes def rule (statement.Insert insert) none).placed);
+    }
 
 -- SHAPES
 
@@ -211,24 +189,24 @@ value_shaped (VarChar most) (value.Number n) ok = absurd (false≢true ok)
 value_shaped (VarChar most) (value.Text t) ok =
     let within : is_within most t ≡ true = ok_within (is_within most t) (value.Text t) TooLong ok in (refl, short_by t most within)
 
-values_shaped : (columns : List ColumnDef) (row : Row) → length row ≡ length columns → list_all fits (zip columns row) ≡ true
+values_shaped : (columns : List ColumnDef) (row : Row) → length row ≡ length columns → list_all can_hold (zip columns row) ≡ true
     → (pointwise is_of (map (λ (c : ColumnDef). c.kind) columns) row ≡ true) × (list_all is_short row ≡ true)
 values_shaped [] [] long fit = (refl, refl)
 values_shaped [] (v ∷ row) long fit = absurd (omega arith)
 values_shaped (c ∷ columns) [] long fit = absurd (omega arith)
 values_shaped (c ∷ columns) (v ∷ row) long fit =
-    let both = and_parts (fits (c, v)) (list_all fits (zip columns row)) fit in
+    let both = and_parts (can_hold (c, v)) (list_all can_hold (zip columns row)) fit in
     let here = value_shaped c.kind v both.0 in
     let rest = values_shaped columns row (omega arith) both.1 in
     (and_from _ _ here.0 rest.0, and_from _ _ here.1 rest.1)
 
 -- a row of a table has a value of each of its kinds
-pub row_is_shaped : (def : TableDef) (row : Row) → IsRow def row → is_shaped (kinds_of def) row ≡ true
+pub row_is_shaped : (def : TableDef) (row : Row) → FitsColumns def row → is_shaped (kinds_of def) row ≡ true
 row_is_shaped def row fit =
-    let both = and_parts (length row == length def.columns) (list_all fits (zip def.columns row)) fit in
+    let both = and_parts (length row == length def.columns) (list_all can_hold (zip def.columns row)) fit in
     let each = values_shaped def.columns row (is_same (length row) (length def.columns) both.0) both.1 in
     and_from _ _ each.0 each.1
 
-pub rows_are_shaped : (def : TableDef) (rows : List Row) → AllByRecursion (IsRow def) rows → list_all (is_shaped (kinds_of def)) rows ≡ true
+pub rows_are_shaped : (def : TableDef) (rows : List Row) → AllByRecursion (FitsColumns def) rows → list_all (is_shaped (kinds_of def)) rows ≡ true
 rows_are_shaped def [] fit = refl
 rows_are_shaped def (row ∷ rows) fit = and_from _ _ (row_is_shaped def row fit.0) (rows_are_shaped def rows fit.1)

@@ -1,9 +1,8 @@
--- A statement that breaks no rule, over stores that hold the plain tables: its scans, its puts, and what their commit leaves.
-use Rattle.std.proofs.Common.{◌≡◌, ℕ, ◌≤◌, nat_le, Bool, true, false, List, [], ◌∷◌, map, filter, flat_map, Option, Some, None, refl, arith, sym, ◌∙◌, ap, subst, inl, inr, cond, length}
+-- A statement that breaks no rule, over stores that hold the plain tables: its scans, what it writes, and what its commit leaves.
+use Rattle.std.proofs.Common.{◌≡◌, ℕ, ◌≤◌, ℤ, Bool, true, false, List, [], ◌∷◌, map, filter, flat_map, Option, Some, None, refl, arith, sym, ◌∙◌, ap, subst, inl, inr, cond, length}
 use Rattle.std.specs.Prelude.{slice_get, option_and_then, if◌then◌else◌}
 use Rattle.std.specs.List.{AllByRecursion, Contains, list_all, list_any, range_with_len}
 use Rattle.std.proofs.lemmas.Bool.{false≢true, and_parts}
-use Rattle.std.proofs.lemmas.Bool.Decides.{nat_tests}
 use Rattle.std.proofs.lemmas.Option.{same_Some}
 use Rattle.sql_values.specs.declared.places.LockMode.TheVariants.{Exclusive}
 use Rattle.sql_values.specs.declared.value.Value.{Value}
@@ -16,38 +15,35 @@ use Rattle.catalog.specs.Views.{View, table_name}
 use Rattle.catalog.specs.Views.{IsTable as IsConfigured}
 use Rattle.catalog_plan.specs.Plans.{table_of}
 use Rattle.sql_text.specs.declared.statement.Statement.{Statement}
-use Rattle.stmt_plan.specs.Apart.{are_apart, has_number_key}
+use Rattle.stmt_plan.specs.Inserts.{key_name}
 use Rattle.stmt_plan.specs.Plans.{IsTable, mode_of, keeps_key}
 use Rattle.stmt_plan.specs.Refusals.{refusal}
-use Rattle.stmt_plan.proofs.Apart.{IsTable-from_tests}
-use Rattle.plain_tables.specs.Inserts.{put_all, AreRows}
+use Rattle.plain_tables.specs.Rows.{Row}
+use Rattle.plain_tables.specs.Statements.{Writes}
 use Rattle.plain_tables.proofs.Members.{at_front, nothing, either}
 use Rattle.branch_store.specs.declared.branch.Stage.TheVariants.{Active}
 use Rattle.branch_store.specs.Opening.{is_definition}
-use Rattle.branch_store.specs.Sound.{IsRow}
 use Rattle.branch_store.specs.Store.{changed_table}
 use Rattle.branch_store.proofs.Sounds.{both_of}
-use Rattle.txn_phases.specs.declared.deed.PlacedRow.{PlacedRow}
 use Rattle.txn_phases.specs.declared.phase.Target.{Target}
-use Rattle.txn_phases.specs.Phases.{scans_of, puts_of, rows_if}
+use Rattle.txn_phases.specs.Phases.{scans_of, rows_if}
 use Rattle.front_core.proofs.Named.{is_definition as tested_definition}
 use Rattle.front_core.specs.declared.event.TxNo.{TxNo}
 use Rattle.front_core.specs.Asked.{pushed, parts_asked, parts_with, owns}
 use Rattle.front_core.specs.Core.{is_table, table_at, table_named}
-use Rattle.front_core.specs.Jobs.{branches_of, scan_for, placed, targets_for, targets_of}
-use Rattle.plain_sessions.specs.Exec.{Tables, rows_added, with_rows}
+use Rattle.front_core.specs.Jobs.{branches_of, scan_for, targets_for, targets_of}
+use Rattle.plain_sessions.specs.Exec.{Tables, with_rows}
 use Rattle.plain_sessions.specs.Held.{CanBeServed, tables_at}
 use Rattle.phase_law.specs.Laws.{AreHeld}
-use Rattle.phase_law.proofs.AskedParts.{others_have_none}
 use Rattle.phase_law.proofs.Commits.{commit_leaves}
 use Rattle.phase_law.proofs.Fits.{scan_fits, pushed_keeps}
 use Rattle.phase_law.proofs.Lists.{slice_get_there, into_map}
 use Rattle.phase_law.proofs.Places.{Place, def_there, places_at, defs_by_place, link_is_placed}
-use Rattle.phase_law.proofs.Puts.{IsDone, put_answers, puts_are_done, puts_are_served, placed_have}
-use Rattle.phase_law.proofs.RowsFit.{rows_are_rows, rows_may_be_inserted}
 use Rattle.phase_law.proofs.Scans.{scanned, scans_are_served}
-use Rattle.phase_law.proofs.Stages.{stores_as, holding, no_changes, puts_at, Served}
+use Rattle.phase_law.proofs.Stages.{stores_as, holding, no_changes, Served}
 use Rattle.phase_law.proofs.Targets.{IsLink, targets_are_links, counting_rows, parts_have_links, links_tests}
+use Rattle.phase_law.proofs.Writes.{IsWritten, changes_at, requests_of}
+use Rattle.phase_law.proofs.WritesServed.{AreDone, writes_are_served}
 
 -- THE TABLE
 
@@ -119,9 +115,6 @@ module _ (catalog : View) (tables : Tables) (n : ℕ) (tx : TxNo) (number : ℕ)
   abbrev asked : List Target
   asked = targets_for table s
 
-  abbrev news : List PlacedRow
-  news = map (placed table.def table.rule) (rows_added table.def s)
-
   pub asked_links : (t : Target) → Contains asked t → IsLink table.parts t
   asked_links t c = targets_are_links (mode_of s) table.parts (parts_asked table.def table.rule s) t c
 
@@ -136,30 +129,22 @@ module _ (catalog : View) (tables : Tables) (n : ℕ) (tx : TxNo) (number : ℕ)
   statement_counts f =
       counting_rows (length catalog.servers) (mode_of s) table.parts (parts_asked table.def table.rule s) f (λ p c. parts_have_links (length catalog.servers) table s p (served.tables number table named.at) c)
 
-  pub new_rows_fit : AllByRecursion (IsRow table.def) (rows_added table.def s)
-  new_rows_fit = rows_are_rows table.def table.rule s sound passes
+  -- the keys on which the condition may hold
+  abbrev test : ℤ → Bool
+  test = keeps_key table.def (pushed table.def s)
 
-  pub new_rows_may_be : AreRows table.def table.rule (rows_added table.def s)
-  new_rows_may_be = rows_may_be_inserted table.def table.rule s sound (table_is_small catalog number table served named.at) passes
+  module _ (w : ℕ → Writes) (left : List Row) (written : IsWritten table.def table.rule (owns table.rule test) (tables number) w left) where
+    -- what is written is done
+    pub statement_writes : AreDone n (stores_as (length catalog.servers) (tables_at catalog tables) (holding n (branches_of catalog tx asked) Active no_changes)) (requests_of (key_name table.def) asked w)
+        (stores_as (length catalog.servers) (tables_at catalog tables) (holding n (branches_of catalog tx asked) Active (changes_at asked w)))
+    statement_writes = writes_are_served catalog tables tx n number table asked w served named.at asked_links written.fit
 
-  -- the puts are done
-  pub statement_puts : Served n (stores_as (length catalog.servers) (tables_at catalog tables) (holding n (branches_of catalog tx asked) Active no_changes)) (puts_of asked news) (put_answers asked news)
-      (stores_as (length catalog.servers) (tables_at catalog tables) (holding n (branches_of catalog tx asked) Active (puts_at asked news)))
-  statement_puts =
-      puts_are_served catalog tables tx n number table asked news served named.at asked_links (placed_have (IsRow table.def) table.def table.rule (rows_added table.def s) new_rows_fit)
-
-  pub statement_puts_done : AllByRecursion IsDone (put_answers asked news)
-  statement_puts_done = puts_are_done asked news
-
-  -- and where all links were asked, their commit leaves the plain tables with the rows put
-  pub statement_commits : (server : ℕ) → mode_of s ≡ Exclusive → map (changed_table (puts_at asked news server)) (tables_at catalog tables server)
-      ≡ tables_at catalog (with_rows tables number (put_all table.def (tables number) (rows_added table.def s))) server
-  unfolding parts_with
-  statement_commits server exclusive =
-      let test : ℕ → Bool = owns table.rule (keeps_key table.def (pushed table.def s)) in
-      let parts_are : length table.parts ≡ part_count table.rule = (served.tables number table named.at).parts in
-      let targets : asked ≡ targets_of Exclusive table.parts (filter test (range_with_len 0 (length table.parts))) =
-      ap (λ m. targets_of m table.parts (parts_asked table.def table.rule s)) exclusive ∙ ap (λ k. targets_of Exclusive table.parts (filter test (range_with_len 0 k))) (sym parts_are) in
-      ap (λ ts. map (changed_table (puts_at ts news server)) (tables_at catalog tables server)) targets
-      ∙ commit_leaves catalog tables number table (rows_added table.def s) named.at (held number table named.at).rows_of new_rows_may_be server test served
-      (λ p out. others_have_none table.def table.rule s p new_rows_may_be out)
+    -- and where all links were asked, its commit leaves the plain tables with what is left
+    pub statement_commits : (server : ℕ) → mode_of s ≡ Exclusive → map (changed_table (changes_at asked w server)) (tables_at catalog tables server) ≡ tables_at catalog (with_rows tables number left) server
+    unfolding parts_with
+    statement_commits server exclusive =
+        let parts_are : length table.parts ≡ part_count table.rule = (served.tables number table named.at).parts in
+        let targets : asked ≡ targets_of Exclusive table.parts (filter (owns table.rule test) (range_with_len 0 (length table.parts))) =
+        ap (λ m. targets_of m table.parts (parts_asked table.def table.rule s)) exclusive ∙ ap (λ k. targets_of Exclusive table.parts (filter (owns table.rule test) (range_with_len 0 k))) (sym parts_are) in
+        ap (λ ts. map (changed_table (changes_at ts w server)) (tables_at catalog tables server)) targets
+        ∙ commit_leaves catalog tables number table w left named.at written.leaves server (owns table.rule test) served written.elsewhere

@@ -1,20 +1,15 @@
 -- The stores in the middle of a statement's transaction.
-use Rattle.std.specs.Prelude.{◌≡◌, ℕ, ◌==◌, true, List, [], ◌∷◌, Some, Option, None, map, set, slice_get, if◌then◌else◌}
+use Rattle.std.specs.Prelude.{◌≡◌, ℕ, ◌==◌, true, List, [], ◌∷◌, Some, map, set, slice_get, if◌then◌else◌}
 use Rattle.std.specs.List.{AllByRecursion, flat_map, range_with_len}
-use Rattle.sql_values.specs.declared.value.Value.{Value}
 use Rattle.sql_text.specs.declared.link.LinkAnswer.{LinkAnswer}
 use Rattle.branch_store.specs.declared.branch.Branch as backend
 use Rattle.branch_store.specs.declared.branch.Change.{Change}
-use Rattle.branch_store.specs.declared.branch.Change.TheVariants.{Put}
 use Rattle.branch_store.specs.declared.branch.Stage.{Stage}
 use Rattle.branch_store.specs.Store.{Store, store_step}
 use Rattle.branch_store.specs.Tables.{Table}
-use Rattle.txn_phases.specs.declared.deed.PlacedRow.{PlacedRow}
 use Rattle.txn_phases.specs.declared.job.Job.{Job}
 use Rattle.txn_phases.specs.declared.phase.Branch.{Branch}
-use Rattle.txn_phases.specs.declared.phase.Target.{Target}
 use Rattle.txn_phases.specs.declared.requests.Ask.{Ask}
-use Rattle.txn_phases.specs.Deeds.{news_in}
 use Rattle.txn_phases.specs.Phases.{has_form, noted}
 
 -- THE STORES
@@ -37,15 +32,6 @@ no_changes s = []
 -- no branch anywhere
 abbrev pub no_branches : ℕ → List backend.Branch
 no_branches s = []
-
--- what the new rows of a partition change at its link, where there are any
-abbrev pub put_at : Target → List (List Value) → List Change
-put_at t [] = []
-put_at t (row ∷ rows) = Put t.remote (row ∷ rows) ∷ []
-
--- what is put at a server, link by link
-abbrev pub puts_at : List Target → List PlacedRow → ℕ → List Change
-puts_at targets news s = flat_map (λ (t : Target). if t.server == s then put_at t (news_in news t.part) else []) targets
 
 -- REQUESTS AND ANSWERS
 

@@ -20,7 +20,7 @@ use Rattle.catalog.specs.Links.{is_ok, are_links, differ}
 use Rattle.catalog.specs.Views.{View, IsTable}
 use Rattle.sql_text.specs.declared.statement.Statement.{Statement}
 use Rattle.plain_tables.specs.Partitions.{rows_in}
-use Rattle.plain_tables.proofs.Members.{at_front, behind, either, nothing, in_lists, kept_passes}
+use Rattle.plain_tables.proofs.Members.{at_front, behind, either, nothing, in_lists, kept_passes, mapped_from}
 use Rattle.branch_store.specs.declared.branch.Branch as backend
 use Rattle.branch_store.specs.declared.branch.Change.{Change}
 use Rattle.branch_store.specs.declared.branch.Stage.{Stage}
@@ -34,7 +34,7 @@ use Rattle.front_core.specs.Asked.{parts_asked, parts_with}
 use Rattle.front_core.specs.Jobs.{is_ng, written, links_asked, links_at, target_at, part_targets, targets_of, xid_at, branch_at, servers_of, branches_of}
 use Rattle.plain_sessions.specs.Exec.{Tables}
 use Rattle.plain_sessions.specs.Held.{CanBeServed, tables_at}
-use Rattle.phase_law.proofs.Lists.{is_itself, in_map, in_range, get_numbered, set_numbered, gives_once, flat_filter, slice_get_there}
+use Rattle.phase_law.proofs.Lists.{is_itself, in_range, get_numbered, set_numbered, gives_once, flat_filter, slice_get_there}
 use Rattle.phase_law.proofs.Places.{link_is_found}
 use Rattle.phase_law.proofs.Stages.{stores_as, branch_there, holding}
 
@@ -75,7 +75,7 @@ link_at parts t x (Some p) at c ng server remote = record { of_part = p; there =
 
 part_link : (mode : LockMode) (parts : List Part) (p : ℕ) (t : Target) → Contains (part_targets mode parts p) t → IsLink parts t × (t.part ≡ p)
 part_link mode parts p t c =
-    let at = in_map (target_at p) (links_asked mode (links_at parts p)) t c in
+    let at = mapped_from (target_at p) (links_asked mode (links_at parts p)) t c in
     let is = asked_links mode (links_at parts p) at.0 at.1 in
     let part_is : t.part ≡ p = ap (λ (u : Target). u.part) (sym at.2) in
     let links : Contains (links_at parts t.part) at.0.0 = subst (λ k. Contains (links_at parts k) at.0.0) (sym part_is) is.0 in

@@ -10,7 +10,7 @@ use Rattle.sql_text.specs.declared.statement.Statement.{Statement}
 use Rattle.stmt_plan.specs.Plans.{work_of}
 use Rattle.stmt_plan.specs.Refusals.{refusal}
 use Rattle.plain_tables.specs.Partitions.{IsTable}
-use Rattle.branch_store.specs.Sound.{IsRow}
+use Rattle.plain_tables.specs.Rows.{FitsColumns}
 use Rattle.txn_phases.specs.declared.deed.Outcome.{Outcome}
 use Rattle.txn_phases.specs.declared.phase.Ending.{Ending}
 use Rattle.txn_phases.specs.declared.phase.Ending.TheVariants.{RolledBack}
@@ -25,7 +25,7 @@ use Rattle.phase_law.specs.Through.{Through}
 -- the rows are a table's: their keys rise, each lies in a partition, and each has a value for each column
 pub record IsHeld (table : Table) (rows : List (List Value)) : Type 0 where
   pub rows_of : IsTable table.def table.rule rows
-  pub fit : AllByRecursion (IsRow table.def) rows
+  pub fit : AllByRecursion (FitsColumns table.def) rows
 
 -- so are the rows of each table of the configuration
 abbrev pub AreHeld : View → Tables → Type 0

@@ -1,6 +1,7 @@
 -- What a statement's text answers on the plain tables, and what it leaves.
 use Rattle.std.specs.Prelude.{ℕ, ◌==◌, Bool, not, ◌||◌, List, [], ◌∷◌, Option, Some, None, Result, Ok, Err, map, codes, if◌then◌else◌}
 use Rattle.std.specs.Fmt.{signed_decimal}
+use Rattle.std.specs.Option.{option_or}
 use Rattle.sql_values.specs.declared.literal.Literal.{Literal}
 use Rattle.sql_values.specs.declared.literal.Literal.TheVariants as literal
 use Rattle.sql_values.specs.declared.table.TableDef.{TableDef}
@@ -13,21 +14,21 @@ use Rattle.sql_text.specs.declared.statement.Statement.TheVariants as statement
 use Rattle.sql_text.specs.Parsing.{parsed}
 use Rattle.stmt_plan.specs.declared.planned.Work.{Work}
 use Rattle.stmt_plan.specs.declared.planned.Work.TheVariants as work
-use Rattle.stmt_plan.specs.Inserts.{rows_of}
 use Rattle.stmt_plan.specs.Plans.{work_of}
 use Rattle.stmt_plan.specs.Selects.{known_as}
 use Rattle.front_rows.specs.Merging.{is_too_large}
 use Rattle.plain_tables.specs.Rows.{Row, kept}
-use Rattle.plain_tables.specs.Statements.{Answer, Refused, Duplicate, Done, Found, executed}
+use Rattle.plain_tables.specs.Statements.{Answer, Refused, Duplicate, RowRefused, Done, Found, Writes, Puts, Dels, executed, finished}
 use Rattle.txn_phases.specs.declared.deed.Outcome.TheVariants as outcome
-use Rattle.txn_phases.specs.Deeds.{writes_too_much}
+use Rattle.txn_phases.specs.Deeds.{deletes_too_much, placed, placed_key, writes_too_much}
 use Rattle.my_messages.specs.declared.reply.Column.{Column}
 use Rattle.my_messages.specs.declared.reply.Reply.{Reply}
 use Rattle.my_messages.specs.declared.reply.Reply.TheVariants as reply
 use Rattle.sql_replies.specs.Errors.{ok_reply, duplicate_reply, limit_reply, no_table_reply, parse_reply, plan_reply}
+use Rattle.sql_replies.specs.Outcomes.{row_reply}
 use Rattle.sql_replies.specs.Results.{column_of}
 use Rattle.front_core.specs.Core.{is_showable, table_named}
-use Rattle.front_core.specs.Jobs.{picks_by, placed, targets_for}
+use Rattle.front_core.specs.Jobs.{picks_by, targets_for}
 
 -- the rows of each table, by its number
 abbrev pub Tables : Type 0
@@ -50,38 +51,50 @@ cell_text literal.Null = None
 
 -- the columns of the answer
 abbrev pub columns_by : TableDef → Work → List Column
-columns_by def (work.Insert rows) = []
 columns_by def (work.Select picks) = map (column_of def picks.table) picks.picks
+columns_by def _ = []
 
 -- what a client is told of an answer
 abbrev pub reply_to : TableDef → Work → Answer → Reply
 reply_to def w (Refused fault) = plan_reply fault
 reply_to def w (Duplicate key) = duplicate_reply key
+reply_to def w (RowRefused fault) = row_reply fault
 reply_to def w (Done count) = ok_reply count
 reply_to def w (Found cells) = reply.Rows (columns_by def w) (map (λ row. map cell_text row) cells) 2
 
 -- LIMITS
 
--- the rows that a statement finds for its answer, whole
+-- the rows on which the condition of a statement holds, whole; an INSERT has none
 abbrev pub rows_found : TableDef → Statement → List Row → List Row
 rows_found def (statement.Insert insert) rows = []
 rows_found def (statement.Select select) rows = kept (known_as def select.tab) select.cond rows
+rows_found def (statement.Update update) rows = kept def update.cond rows
+rows_found def (statement.Delete delete) rows = kept def delete.cond rows
 
--- the rows that it adds
-abbrev pub rows_added : TableDef → Statement → List Row
-rows_added def (statement.Insert insert) = rows_of def insert.columns insert.rows
-rows_added def (statement.Select select) = []
+-- what a statement writes that is done
+abbrev pub writes_of : TableDef → Statement → List Row → Writes
+writes_of def s rows = (finished def (work_of def s) (rows_found def s rows)).1
+
+-- more than may be written at a server
+abbrev pub is_long : Table → Statement → Writes → Bool
+is_long table s (Puts news) = writes_too_much (targets_for table s) (map (placed table.def table.rule) news)
+is_long table s (Dels keys) = deletes_too_much (targets_for table s) (map (placed_key table.rule) keys)
 
 -- the answer has more rows, or more bytes of them, than it may have, or no packets can hold it
 abbrev pub is_large : TableDef → Statement → List Row → Bool
 is_large def s found = is_too_large found || not (is_showable (picks_by (work_of def s)) (outcome.Found found))
 
--- the limit that an answer passes: that of answers, or that of what is written at a server
+abbrev pub answer_limit : Bool → Option (List ℕ)
+answer_limit large = if large then Some (codes "answer") else None
+
+-- the limit that an answer passes: that of answers, which counts the rows that are found to be changed too, or that of what is written at a server
 abbrev pub limit_passed : Table → Statement → List Row → Answer → Option (List ℕ)
 limit_passed table s rows (Refused fault) = None
 limit_passed table s rows (Duplicate key) = None
-limit_passed table s rows (Done count) = if writes_too_much (targets_for table s) (map (placed table.def table.rule) (rows_added table.def s)) then Some (codes "write set") else None
-limit_passed table s rows (Found cells) = if is_large table.def s (rows_found table.def s rows) then Some (codes "answer") else None
+limit_passed table s rows (RowRefused fault) = answer_limit (is_too_large (rows_found table.def s rows))
+limit_passed table s rows (Done count) =
+    option_or (answer_limit (is_too_large (rows_found table.def s rows))) (if is_long table s (writes_of table.def s rows) then Some (codes "write set") else None)
+limit_passed table s rows (Found cells) = answer_limit (is_large table.def s (rows_found table.def s rows))
 
 -- STATEMENTS
 

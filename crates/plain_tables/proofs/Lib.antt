@@ -1,3 +1,7 @@
+pub mod Changed
+pub mod Deleted
+mod Examples
+pub mod Fitting
 pub mod Inserted
 pub mod Members
 pub mod Merged

@@ -1,5 +1,5 @@
 -- The elements of lists: of a filter, of lists one after the other, and of two lists that rise.
-use Rattle.std.proofs.Common.{◌≡◌, suc, zero, Bool, true, List, [], ◌∷◌, refl, arith, sym, ◌∙◌, ap, subst, inl, inr, cond}
+use Rattle.std.proofs.Common.{◌≡◌, suc, zero, Bool, true, List, [], ◌∷◌, map, refl, arith, sym, ◌∙◌, ap, subst, inl, inr, cond}
 use Rattle.std.specs.Prelude.{◌⊎◌}
 use Rattle.std.specs.List.{AllByRecursion, Contains, filter, flat_map}
 use Rattle.std.specs.List.Sorted.{IsStrictlySortedBy}
@@ -72,8 +72,16 @@ from_list f (q ∷ ps) p z at c = elim (either q p ps at) [
   | inr later ↦ Contains-append_right (f q) (flat_map f ps) z (from_list f ps p z later c)
 ]
 
+-- an element of a map is of an element
+pub mapped_from : {X Y : Type 0} (f : X → Y) (xs : List X) (y : Y) → Contains (map f xs) y → (x : X) × Contains xs x × (f x ≡ y)
+mapped_from f [] y c = nothing y c
+mapped_from f (x ∷ xs) y c = elim (either (f x) y (map f xs) c) [
+  | inl same ↦ (x, at_front x xs, same)
+  | inr later ↦ let rest = mapped_from f xs y later in (rest.0, behind x rest.0 xs rest.1, rest.2)
+]
+
 module _ {X : Type 0} (cmp : X → X → Ordering) where
-  not_below : {P : Type 0} → IsTotalOrder cmp → (x y : X) → cmp x y ≡ Less → cmp y x ≡ Less → P
+  pub not_below : {P : Type 0} → IsTotalOrder cmp → (x y : X) → cmp x y ≡ Less → cmp y x ≡ Less → P
   not_below o x y a b = let turned : Less ≡ ordering_reverse Less = sym a ∙ (o.antisymm x y ∙ ap ordering_reverse b) in let no : ⊥ = cc in absurd no
 
   -- two lists that rise and have the same elements are one

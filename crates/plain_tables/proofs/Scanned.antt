@@ -1,5 +1,5 @@
 -- A statement is what its scan finds.
-use Rattle.std.proofs.Common.{◌≡◌, ℕ, ℤ, Bool, ◌||◌, true, false, List, [], ◌∷◌, ◌++◌, map, Option, Some, None, IsSomeAnd, refl, sym, ◌∙◌, ap}
+use Rattle.std.proofs.Common.{◌≡◌, ℕ, ℤ, Bool, ◌||◌, true, false, List, [], ◌∷◌, ◌++◌, map, length, Option, Some, None, IsSomeAnd, Result, Ok, Err, refl, sym, ◌∙◌, ap}
 use Rattle.std.specs.Prelude.{◌↔◌, slice_get}
 use Rattle.std.specs.List.{AllByRecursion, Contains, list_any}
 use Rattle.std.specs.Option.{option_map, option_map_or, option_or}
@@ -20,28 +20,34 @@ use Rattle.sql_values.specs.declared.tree.Cond.{Cond, Cond-F}
 use Rattle.sql_values.specs.declared.tree.Cond.TheFolds.{fold-roll-Cond}
 use Rattle.sql_values.specs.declared.tree.Cond.TheVariants.{rolls-In}
 use Rattle.sql_values.specs.declared.value.Value.{Value}
-use Rattle.sql_values.specs.Checks.{first_column, is_unknown, cond_columns}
+use Rattle.sql_values.specs.Checks.{first_column, is_unknown}
 use Rattle.sql_values.specs.Conditions.{cond_holds, layer_holds, compares, literal_of}
 use Rattle.part_rules.specs.declared.rule.Rule.{Rule}
 use Rattle.part_rules.specs.Keeps.{names_key}
 use Rattle.part_rules.specs.KeyRows.{HasOwnKeyName}
 use Rattle.part_rules.proofs.KeptKeys.{key_value}
-use Rattle.sql_text.specs.declared.statement.Select.{Select}
 use Rattle.sql_text.specs.declared.statement.Statement.{Statement}
 use Rattle.sql_text.specs.declared.statement.Statement.TheVariants as statement
+use Rattle.sql_text.specs.declared.statement.Tab.{Tab}
+use Rattle.stmt_plan.specs.declared.fault.RowFault.{RowFault}
 use Rattle.stmt_plan.specs.declared.fault.StmtFault.TheVariants.{NoColumn}
 use Rattle.stmt_plan.specs.declared.planned.Plan.{Plan}
+use Rattle.stmt_plan.specs.declared.planned.Work.{Work}
+use Rattle.stmt_plan.specs.declared.planned.Work.TheVariants as work
 use Rattle.stmt_plan.specs.Inserts.{rows_of, row_key, AreRising, in_keys, key_name}
 use Rattle.stmt_plan.specs.Plans.{IsPlan}
 use Rattle.stmt_plan.specs.Plans.{IsTable as IsDefinition}
 use Rattle.stmt_plan.specs.Refusals.{no_column}
-use Rattle.stmt_plan.specs.Selects.{known_as, item_columns, picks_of, unqualified}
+use Rattle.stmt_plan.specs.Selects.{known_as, known_name, item_columns, where_columns, named_columns, picks_of, unqualified}
+use Rattle.stmt_plan.specs.Settings.{assigned_columns, update_columns, settings}
 use Rattle.stmt_plan.proofs.BareNames.{unqualified_means_the_same}
 use Rattle.stmt_plan.proofs.Seeks.{first-append}
 use Rattle.plain_tables.specs.Rows.{Row, key_of, HasKey, holds_on, kept}
-use Rattle.plain_tables.specs.Inserts.{has_row, first_taken, put_all, FindsKeys}
+use Rattle.plain_tables.specs.Inserts.{has_row, first_taken, put_all, without, FindsKeys}
 use Rattle.plain_tables.specs.Partitions.{IsTable, rows_in}
-use Rattle.plain_tables.specs.Statements.{Found, cells_of, inserted_by, executed_by, done_by, finished, added_by, applied, StatementsAreScans, StatementsAreMerged}
+use Rattle.plain_tables.specs.Statements.{Found, Done, cells_of, inserted_by, updated_by, executed_by, done_by, finished, added_by, changed_by, applied, StatementsAreScans, StatementsAreMerged}
+use Rattle.plain_tables.specs.Updates.{set_rows}
+use Rattle.plain_tables.proofs.Deleted.{rows_with_keys_go}
 use Rattle.plain_tables.proofs.Merged.{partitions_are_merged, rows_merge_in_one_way}
 use Rattle.plain_tables.proofs.Inserted.{found_keys_tell}
 
@@ -59,13 +65,25 @@ unmapped : {X Y : Type 0} (f : X → Y) (a : Option X) → option_map f a ≡ No
 unmapped f None is = refl
 unmapped f (Some x) is = let no : Some (f x) ≡ None = is in cc
 
-pushed_means : (def : TableDef) (select : Select) (c : Option Cond) (row : Row) → first_column (is_unknown (known_as def select.tab ∷ [])) (item_columns select.items ++ option_map_or cond_columns c []) ≡ None
-    → holds_on def (option_map unqualified c) row ≡ holds_on (known_as def select.tab) c row
-pushed_means def select None row known = refl
-pushed_means def select (Some c) row known =
-    let parts = both_none (first_column (is_unknown (known_as def select.tab ∷ [])) (item_columns select.items)) (first_column (is_unknown (known_as def select.tab ∷ [])) (cond_columns c))
-    (sym (first-append (is_unknown (known_as def select.tab ∷ [])) (item_columns select.items) (cond_columns c)) ∙ known) in
-    unqualified_means_the_same def select.tab row c parts.1
+-- where no name is found in a text, none is in its second part
+last_none : (test : ColumnName → Bool) (xs ys : List ColumnName) → first_column test (xs ++ ys) ≡ None → first_column test ys ≡ None
+last_none test xs ys none = (both_none (first_column test xs) (first_column test ys) (sym (first-append test xs ys) ∙ none)).1
+
+pushed_means : (def : TableDef) (tab : Tab) (c : Option Cond) (row : Row) → first_column (is_unknown (known_as def tab ∷ [])) (where_columns c) ≡ None
+    → holds_on def (option_map unqualified c) row ≡ holds_on (known_as def tab) c row
+pushed_means def tab None row known = refl
+pushed_means def tab (Some c) row known = unqualified_means_the_same def tab row c known
+
+-- the pushed condition keeps what WHERE does
+pushed_keeps : (def : TableDef) (tab : Tab) (c : Option Cond) (rows : List Row) → first_column (is_unknown (known_as def tab ∷ [])) (where_columns c) ≡ None
+    → kept def (option_map unqualified c) rows ≡ kept (known_as def tab) c rows
+pushed_keeps def tab c rows known =
+    filter_agree (holds_on def (option_map unqualified c)) (holds_on (known_as def tab) c) (λ row. pushed_means def tab c row known) rows
+
+-- where the table is known by its own name
+own_keeps : (def : TableDef) (c : Option Cond) (rows : List Row) → first_column (is_unknown (def ∷ [])) (where_columns c) ≡ None
+    → kept def (option_map unqualified c) rows ≡ kept def c rows
+own_keeps def c rows known = pushed_keeps def (record { table = def.name; alias = None }) c rows known
 
 -- KEYS OF AN INSERT
 
@@ -107,6 +125,17 @@ unfolding put_all
 added def rows news (Some key) = refl
 added def rows news None = refl
 
+set : (def : TableDef) (rows hits : List Row) (r : Result (List Row) RowFault) → updated_by def rows hits r ≡ applied def rows (changed_by hits r)
+unfolding put_all
+set def rows hits (Err fault) = refl
+set def rows hits (Ok news) = refl
+
+-- what a plan's work makes of the rows of its condition, where the plan is the statement's
+planned_work : (def : TableDef) (rows : List Row) (w v : Work) (c d : Option Cond) → v ≡ w → d ≡ c
+    → applied def rows (finished def w (kept def c rows)) ≡ applied def rows (finished def v (kept def d rows))
+planned_work def rows w v c d works conds =
+    ap (λ (x : Option Cond). applied def rows (finished def w (kept def x rows))) (sym conds) ∙ ap (λ (x : Work). applied def rows (finished def x (kept def d rows))) (sym works)
+
 scanned : (number : ℕ) (def : TableDef) (rule : Rule) (s : Statement) (plan : Plan) (rows : List Row) → IsDefinition def → IsTable def rule rows → no_column def s ≡ None → IsPlan number def rule s plan
     → done_by def s rows ≡ applied def rows (finished def plan.work (kept def plan.cond rows))
 unfolding put_all
@@ -116,14 +145,26 @@ scanned number def rule (statement.Insert insert) plan rows is table known plann
     let found = found_keys_tell def rows (Some (in_keys def planned.cond.list)) keys (all_found def planned.cond.list keys rows is planned.cond.rising table.keyed) in
     added def rows news (first_taken (has_row def rows) keys)
     ∙ ap (λ o. applied def rows (added_by news o)) (sym found)
-    ∙ ap (λ (c : Option Cond). applied def rows (added_by news (first_taken (has_row def (kept def c rows)) keys))) (sym planned.cond.in_list)
-    ∙ ap (λ w. applied def rows (finished def w (kept def plan.cond rows))) (sym planned.work_is)
+    ∙ planned_work def rows (work.Insert news) plan.work (Some (in_keys def planned.cond.list)) plan.cond planned.work_is planned.cond.in_list
 scanned number def rule (statement.Select select) plan rows is table known planned =
-    let same = filter_agree (holds_on def (option_map unqualified select.cond)) (holds_on (known_as def select.tab) select.cond) (λ row. pushed_means def select select.cond row (unmapped NoColumn _ known)) rows in
+    let named = unmapped NoColumn (first_column (is_unknown (known_as def select.tab ∷ [])) (named_columns select.items select.cond)) known in
+    let same = pushed_keeps def select.tab select.cond rows (last_none (is_unknown (known_as def select.tab ∷ [])) (item_columns select.items) (where_columns select.cond) named) in
     let picks = picks_of (known_as def select.tab) select.items in
     ap (λ found. (Found (map (cells_of picks) found), rows)) (sym same)
-    ∙ ap (λ (c : Option Cond). (Found (map (cells_of picks) (kept def c rows)), rows)) (sym planned.cond)
-    ∙ ap (λ w. applied def rows (finished def w (kept def plan.cond rows))) (sym planned.work_is)
+    ∙ planned_work def rows (work.Select (record { table = known_name select.tab; picks = picks })) plan.work (option_map unqualified select.cond) plan.cond planned.work_is planned.cond
+scanned number def rule (statement.Update update) plan rows is table known planned =
+    let named = unmapped NoColumn (first_column (is_unknown (def ∷ [])) (update_columns update)) known in
+    let same = own_keeps def update.cond rows (last_none (is_unknown (def ∷ [])) (assigned_columns update.sets) (where_columns update.cond) named) in
+    let sets = settings def update.sets in
+    set def rows (kept def update.cond rows) (set_rows def sets 1 (kept def update.cond rows))
+    ∙ ap (λ found. applied def rows (changed_by found (set_rows def sets 1 found))) (sym same)
+    ∙ planned_work def rows (work.Update sets) plan.work (option_map unqualified update.cond) plan.cond planned.work_is planned.cond
+scanned number def rule (statement.Delete delete) plan rows is table known planned =
+    let named = unmapped NoColumn (first_column (is_unknown (def ∷ [])) (where_columns delete.cond)) known in
+    let same = own_keeps def delete.cond rows named in
+    ap (λ l. (Done (length (kept def delete.cond rows)), l)) (rows_with_keys_go def delete.cond rows table.rises)
+    ∙ ap (λ found. (Done (length found), without def (map (key_of def) found) rows)) (sym same)
+    ∙ planned_work def rows work.Delete plan.work (option_map unqualified delete.cond) plan.cond planned.work_is planned.cond
 
 pub statements_are_scans : StatementsAreScans
 statements_are_scans number def rule s plan rows is table passes planned =

@@ -1,6 +1,7 @@
--- What an INSERT does to a plain table.
-use Rattle.std.specs.Prelude.{◌≡◌, ℤ, ◌||◌, Bool, List, [], ◌∷◌, ◌++◌, Option, Some, None, if◌then◌else◌, int_lt, IsSome, ℕ}
+-- What statements do to a plain table: rows are put, or go.
+use Rattle.std.specs.Prelude.{◌≡◌, ◌==◌, ℤ, false, ◌||◌, Bool, not, List, [], ◌∷◌, ◌++◌, Option, Some, None, if◌then◌else◌, int_lt, IsSome, ℕ}
 use Rattle.std.specs.List.{AllByRecursion, filter, list_any}
+use Rattle.std.specs.Option.{option_map_or}
 use Rattle.std.specs.Ordering.{int_eq}
 use Rattle.sql_values.specs.declared.table.TableDef.{TableDef}
 use Rattle.sql_values.specs.declared.tree.Cond.{Cond}
@@ -27,7 +28,11 @@ unfoldable pub put_all : TableDef → List Row → List Row → List Row
 put_all def rows [] = rows
 put_all def rows (row ∷ more) = put_all def (put def rows row) more
 
--- rows that may be inserted: each has a key, which lies in a partition
+-- the rows without those with one of these keys
+abbrev pub without : TableDef → List ℤ → List Row → List Row
+without def keys rows = filter (λ row. not (list_any (int_eq (key_of def row)) keys)) rows
+
+-- rows that may be put: each has a key, which lies in a partition
 pub record AreRows (def : TableDef) (rule : Rule) (news : List Row) : Type 0 where
   pub keyed : AllByRecursion (HasKey def) news
   pub placed : AllByRecursion (λ row. IsSome (part rule (key_of def row))) news
@@ -47,3 +52,15 @@ PutsKeepTables = (def : TableDef) (rule : Rule) (rows news : List Row) → IsTab
 -- what a partition has after rows were put are its rows, with those put that lie in it
 abbrev pub PutsArePlaced : Type 0
 PutsArePlaced = (def : TableDef) (rule : Rule) (rows news : List Row) (p : ℕ) → IsTable def rule rows → AreRows def rule news → rows_in def rule p (put_all def rows news) ≡ put_all def (rows_in def rule p rows) (rows_in def rule p news)
+
+-- those of the keys that lie in the partition
+abbrev pub keys_in : Rule → ℕ → List ℤ → List ℤ
+keys_in rule p keys = filter (λ key. option_map_or (λ q. q == p) (part rule key) false) keys
+
+-- a table from which rows went is a table
+abbrev pub DeletionsKeepTables : Type 0
+DeletionsKeepTables = (def : TableDef) (rule : Rule) (rows : List Row) (keys : List ℤ) → IsTable def rule rows → IsTable def rule (without def keys rows)
+
+-- what a partition has after the rows with these keys went is what it had, without those of the keys that lie in it
+abbrev pub DeletionsArePlaced : Type 0
+DeletionsArePlaced = (def : TableDef) (rule : Rule) (rows : List Row) (keys : List ℤ) (p : ℕ) → rows_in def rule p (without def keys rows) ≡ without def (keys_in rule p keys) (rows_in def rule p rows)

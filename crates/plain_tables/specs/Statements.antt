@@ -1,14 +1,18 @@
 -- What a statement on one table answers, and what it leaves.
-use Rattle.std.specs.Prelude.{◌≡◌, ℕ, ℤ, List, [], Option, Some, None, map, length, slice_get}
+use Rattle.std.specs.Prelude.{◌≡◌, ℕ, ℤ, not, List, [], Option, Some, None, Result, Ok, Err, map, length, slice_get}
+use Rattle.std.specs.List.{filter}
 use Rattle.std.specs.Option.{option_map_or}
 use Rattle.sql_values.specs.declared.literal.Literal.{Literal}
 use Rattle.sql_values.specs.declared.literal.Literal.TheVariants as literal
 use Rattle.sql_values.specs.declared.table.TableDef.{TableDef}
 use Rattle.sql_values.specs.Conditions.{literal_of}
 use Rattle.part_rules.specs.declared.rule.Rule.{Rule}
+use Rattle.sql_text.specs.declared.statement.Delete.{Delete}
 use Rattle.sql_text.specs.declared.statement.Select.{Select}
 use Rattle.sql_text.specs.declared.statement.Statement.{Statement}
 use Rattle.sql_text.specs.declared.statement.Statement.TheVariants as statement
+use Rattle.sql_text.specs.declared.statement.Update.{Update}
+use Rattle.stmt_plan.specs.declared.fault.RowFault.{RowFault}
 use Rattle.stmt_plan.specs.declared.fault.StmtFault.{StmtFault}
 use Rattle.stmt_plan.specs.declared.planned.Pick.{Pick}
 use Rattle.stmt_plan.specs.declared.planned.Plan.{Plan}
@@ -19,9 +23,11 @@ use Rattle.stmt_plan.specs.Plans.{IsPlan}
 use Rattle.stmt_plan.specs.Plans.{IsTable as IsDefinition}
 use Rattle.stmt_plan.specs.Refusals.{refusal}
 use Rattle.stmt_plan.specs.Selects.{known_as, picks_of}
-use Rattle.plain_tables.specs.Inserts.{has_row, first_taken, put_all}
+use Rattle.stmt_plan.specs.Settings.{settings}
+use Rattle.plain_tables.specs.Inserts.{has_row, first_taken, put_all, without}
 use Rattle.plain_tables.specs.Partitions.{IsTable, IsMerged, rows_in}
-use Rattle.plain_tables.specs.Rows.{Row, key_of, kept}
+use Rattle.plain_tables.specs.Rows.{Row, key_of, holds_on, kept}
+use Rattle.plain_tables.specs.Updates.{set_rows, changed}
 
 -- what a statement answers
 pub data Answer : Type 0 where
@@ -29,7 +35,9 @@ pub data Answer : Type 0 where
   Refused : StmtFault → Answer
   -- a row has this key already, or two new rows have it
   Duplicate : ℤ → Answer
-  -- so many rows were added
+  -- a row can't be changed as it is to be
+  RowRefused : RowFault → Answer
+  -- so many rows were added or changed, or went
   Done : ℕ → Answer
   -- these rows of cells
   Found : List (List Literal) → Answer
@@ -53,9 +61,23 @@ inserted def news rows = inserted_by def rows news (first_taken (has_row def row
 abbrev pub selected : TableDef → Select → List Row → Answer
 selected def select rows = Found (map (cells_of (picks_of (known_as def select.tab) select.items)) (kept (known_as def select.tab) select.cond rows))
 
+-- UPDATE: the rows on which WHERE holds are set, unless one can't be; those whose values change count
+abbrev pub updated_by : TableDef → List Row → List Row → Result (List Row) RowFault → Answer × List Row
+updated_by def rows hits (Err fault) = (RowRefused fault, rows)
+updated_by def rows hits (Ok news) = (Done (length (changed hits news)), put_all def rows (changed hits news))
+
+abbrev pub updated : TableDef → Update → List Row → Answer × List Row
+updated def update rows = let hits = kept def update.cond rows in updated_by def rows hits (set_rows def (settings def update.sets) 1 hits)
+
+-- DELETE: the rows on which WHERE holds go
+abbrev pub deleted : TableDef → Delete → List Row → Answer × List Row
+deleted def delete rows = (Done (length (kept def delete.cond rows)), filter (λ row. not (holds_on def delete.cond row)) rows)
+
 abbrev pub done_by : TableDef → Statement → List Row → Answer × List Row
 done_by def (statement.Insert insert) rows = inserted def (rows_of def insert.columns insert.rows) rows
 done_by def (statement.Select select) rows = (selected def select rows, rows)
+done_by def (statement.Update update) rows = updated def update rows
+done_by def (statement.Delete delete) rows = deleted def delete rows
 
 abbrev pub executed_by : TableDef → Statement → List Row → Option StmtFault → Answer × List Row
 executed_by def s rows (Some fault) = (Refused fault, rows)
@@ -67,18 +89,34 @@ executed def rule s rows = executed_by def s rows (refusal def rule s)
 
 -- A STATEMENT AS WHAT ITS SCAN FINDS
 
--- what a statement makes of the rows that its scan found: its answer, and the rows that it adds
-abbrev pub added_by : List Row → Option ℤ → Answer × List Row
-added_by news (Some key) = (Duplicate key, [])
-added_by news None = (Done (length news), news)
+-- what a statement writes: rows, each in place of one with its key, or keys whose rows go
+pub data Writes : Type 0 where
+  Puts : List Row → Writes
+  Dels : List ℤ → Writes
 
-abbrev pub finished : TableDef → Work → List Row → Answer × List Row
+-- the table with what is written
+abbrev pub written : TableDef → List Row → Writes → List Row
+written def rows (Puts news) = put_all def rows news
+written def rows (Dels keys) = without def keys rows
+
+-- what a statement makes of the rows that its scan found: its answer, and what it writes
+abbrev pub added_by : List Row → Option ℤ → Answer × Writes
+added_by news (Some key) = (Duplicate key, Puts [])
+added_by news None = (Done (length news), Puts news)
+
+abbrev pub changed_by : List Row → Result (List Row) RowFault → Answer × Writes
+changed_by found (Err fault) = (RowRefused fault, Puts [])
+changed_by found (Ok news) = (Done (length (changed found news)), Puts (changed found news))
+
+abbrev pub finished : TableDef → Work → List Row → Answer × Writes
 finished def (work.Insert news) found = added_by news (first_taken (has_row def found) (map (key_of def) news))
-finished def (work.Select picks) found = (Found (map (cells_of picks.picks) found), [])
+finished def (work.Select picks) found = (Found (map (cells_of picks.picks) found), Puts [])
+finished def (work.Update sets) found = changed_by found (set_rows def sets 1 found)
+finished def work.Delete found = (Done (length found), Dels (map (key_of def) found))
 
--- its answer, and the table with the rows that it adds
-abbrev pub applied : TableDef → List Row → Answer × List Row → Answer × List Row
-applied def rows made = (made.0, put_all def rows made.1)
+-- its answer, and the table with what it writes
+abbrev pub applied : TableDef → List Row → Answer × Writes → Answer × List Row
+applied def rows made = (made.0, written def rows made.1)
 
 -- a statement that isn't refused is a scan of its condition, and what it makes of what that found
 abbrev pub StatementsAreScans : Type 0

@@ -1,8 +1,9 @@
 //! What holds of plain tables and their partitions.
 
-ghost use Rattle.plain_tables.specs.Inserts.{FoundKeysTell, PutsKeepTables, PutsArePlaced};
+ghost use Rattle.plain_tables.specs.Inserts.{FoundKeysTell, PutsKeepTables, PutsArePlaced, DeletionsKeepTables, DeletionsArePlaced};
 ghost use Rattle.plain_tables.specs.Partitions.{PartitionsAreMerged, RowsMergeInOneWay};
 ghost use Rattle.plain_tables.specs.Statements.{StatementsAreScans, StatementsAreMerged};
+ghost use Rattle.plain_tables.specs.Updates.{UpdatesKeepKeys, UpdatesAreRows, UpdatesFitColumns};
 
 /// Lists of rows merge to one list.
 pub fn rows_merge_in_one_way()
@@ -27,6 +28,31 @@ pub fn puts_keep_tables()
 /// Where rows are put into a table, each partition has its own of them put into it.
 pub fn puts_are_placed()
     ensures { PutsArePlaced }
+{}
+
+/// A table from which rows went is a table.
+pub fn deletions_keep_tables()
+    ensures { DeletionsKeepTables }
+{}
+
+/// Where rows go from a table, those of each partition go from it.
+pub fn deletions_are_placed()
+    ensures { DeletionsArePlaced }
+{}
+
+/// Rows that are set keep their keys.
+pub fn updates_keep_keys()
+    ensures { UpdatesKeepKeys }
+{}
+
+/// What is put of rows that were set may be put where they stood.
+pub fn updates_are_rows()
+    ensures { UpdatesAreRows }
+{}
+
+/// Rows that are set fit the columns of their table.
+pub fn updates_fit_columns()
+    ensures { UpdatesFitColumns }
 {}
 
 /// A statement that isn't refused is a scan of its plan's condition, and what it makes of the rows that this finds.

@@ -64,9 +64,17 @@ too_long_reply column row = reply.Err 1406 (codes "22001") (codes "Data too long
 abbrev pub no_partition_reply : ℤ → Reply
 no_partition_reply key = reply.Err 1526 (codes "HY000") (codes "Table has no partition for value " ++ signed_decimal key)
 
+-- a literal or a partial result of an expression that is no BIGINT
+abbrev pub arithmetic_reply : Reply
+arithmetic_reply = reply.Err 1690 (codes "22003") (codes "BIGINT value is out of range")
+
 -- a backend refused a request, with this number
 abbrev pub refused_reply : List ℕ → ℕ → Reply
 refused_reply server number = own_error 14006 (codes "Backend " ++ (shown server ++ (codes " refused: " ++ decimal number)))
+
+-- the key column is set
+abbrev pub key_changed_reply : Reply
+key_changed_reply = own_error 14009 (codes "The key column can't be changed")
 
 -- a limit that is passed, by its name
 abbrev pub limit_reply : List ℕ → Reply
@@ -90,6 +98,7 @@ parse_reply parse.NoMemory = no_memory_reply
 abbrev pub plan_reply : StmtFault → Reply
 plan_reply (stmt.NoColumn name) = unknown_column_reply name
 plan_reply (stmt.Ambiguous name) = ambiguous_reply name
+plan_reply stmt.KeyChanged = key_changed_reply
 plan_reply (stmt.ColumnCount row) = count_reply row
 plan_reply (stmt.IsNull name) = null_reply name
 plan_reply stmt.TypeMismatch = mismatch_reply

@@ -7,12 +7,14 @@ use Rattle.conf_file.specs.declared.entries.HostEntry.{HostEntry}
 use Rattle.sql_values.specs.declared.table.Kind.{Kind}
 use Rattle.sql_values.specs.declared.table.TableDef.{TableDef}
 use Rattle.sql_values.specs.declared.value.Value.{Value}
+use Rattle.stmt_plan.specs.declared.fault.RowFault.{RowFault}
+use Rattle.stmt_plan.specs.declared.fault.RowFault.TheVariants as row_fault
 use Rattle.stmt_plan.specs.declared.planned.Picks.{Picks}
 use Rattle.txn_phases.specs.declared.deed.Outcome.{Outcome}
 use Rattle.txn_phases.specs.declared.deed.Outcome.TheVariants as outcome
 use Rattle.txn_phases.specs.declared.deed.Refusal.{Refusal}
 use Rattle.txn_phases.specs.Phases.{is_short, is_shaped}
-use Rattle.sql_replies.specs.Errors.{shown, ok_reply, no_memory_reply, duplicate_reply, refused_reply, limit_reply}
+use Rattle.sql_replies.specs.Errors.{shown, ok_reply, no_memory_reply, duplicate_reply, arithmetic_reply, range_reply, too_long_reply, refused_reply, limit_reply}
 use Rattle.sql_replies.specs.Results.{rows_reply}
 
 -- the limit that a backend's message names: what follows `Limit: `, or nothing where the message begins otherwise or more than 64 bytes follow
@@ -35,11 +37,18 @@ abbrev pub found_reply : TableDef → Option Picks → List (List Value) → Rep
 found_reply table (Some picks) rows = rows_reply table picks rows
 found_reply table None rows = ok_reply 0
 
+-- a row that an UPDATE can't change
+abbrev pub row_reply : RowFault → Reply
+row_reply row_fault.Arithmetic = arithmetic_reply
+row_reply (row_fault.OutOfRange column row) = range_reply column row
+row_reply (row_fault.TooLong column row) = too_long_reply column row
+
 -- the reply to a statement on this table that asks for these columns
 abbrev pub outcome_reply : TableDef → Option Picks → List HostEntry → Outcome → Reply
 outcome_reply table picks servers (outcome.Found rows) = found_reply table picks rows
-outcome_reply table picks servers (outcome.Inserted count) = ok_reply count
+outcome_reply table picks servers (outcome.Done count) = ok_reply count
 outcome_reply table picks servers (outcome.Duplicate key) = duplicate_reply key
+outcome_reply table picks servers (outcome.RowRefused fault) = row_reply fault
 outcome_reply table picks servers outcome.AnswerLimit = limit_reply (codes "answer")
 outcome_reply table picks servers outcome.WriteSetLimit = limit_reply (codes "write set")
 outcome_reply table picks servers (outcome.Refused refusal) = refusal_reply servers refusal

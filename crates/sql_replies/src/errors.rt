@@ -1,7 +1,7 @@
 //! Refusals, one function each.
 ghost use Rattle.std.specs.Prelude.{◌≡◌, ◌≤◌, length, IfOk};
 ghost use Rattle.my_messages.specs.Reply.{HasBytes};
-ghost use Rattle.sql_replies.specs.Errors.{shown as shown_text, ok_reply, no_memory_reply, null_reply, ambiguous_reply, unknown_column_reply, duplicate_reply, syntax_reply, count_reply, no_table_reply, range_reply, too_long_reply, no_partition_reply, refused_reply, limit_reply, log_full_reply, mismatch_reply};
+ghost use Rattle.sql_replies.specs.Errors.{shown as shown_text, ok_reply, no_memory_reply, null_reply, ambiguous_reply, unknown_column_reply, duplicate_reply, syntax_reply, count_reply, no_table_reply, range_reply, too_long_reply, no_partition_reply, arithmetic_reply, refused_reply, key_changed_reply, limit_reply, log_full_reply, mismatch_reply};
 
 use list_types::Text;
 use my_messages::Reply;
@@ -175,6 +175,18 @@ pub(crate) fn no_partition(alloc: Global, key: i64) -> Result<Reply, AllocError>
     })
 }
 
+/// A literal or a partial result of an expression that is no BIGINT.
+pub(crate) fn arithmetic(alloc: Global) -> Result<Reply, AllocError>
+    ensures reply { IfOk result (λ reply. reply ≡ arithmetic_reply) }
+    ensures bytes { IfOk result HasBytes }
+{
+    Ok(Reply::Err {
+        number: 1690,
+        state: *b"22003",
+        message: Text::from_str(alloc, "BIGINT value is out of range")?,
+    })
+}
+
 /// A backend refused a request.
 pub(crate) fn backend_refused(alloc: Global, server: &str, number: u16) -> Result<Reply, AllocError>
     ensures reply { IfOk result (λ reply. reply ≡ refused_reply server.now number) }
@@ -185,6 +197,18 @@ pub(crate) fn backend_refused(alloc: Global, server: &str, number: u16) -> Resul
         number: 14006,
         state: *b"HY000",
         message: Text::from_string(format!(in alloc; "Backend {name} refused: {number}")?),
+    })
+}
+
+/// The key column is set.
+pub(crate) fn key_changed(alloc: Global) -> Result<Reply, AllocError>
+    ensures reply { IfOk result (λ reply. reply ≡ key_changed_reply) }
+    ensures bytes { IfOk result HasBytes }
+{
+    Ok(Reply::Err {
+        number: 14009,
+        state: *b"HY000",
+        message: Text::from_str(alloc, "The key column can't be changed")?,
     })
 }
 

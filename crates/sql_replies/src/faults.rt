@@ -4,8 +4,8 @@ ghost use Rattle.my_messages.specs.Reply.{HasBytes};
 ghost use Rattle.sql_replies.specs.Errors.{parse_reply as reply_to_parse, plan_reply as reply_to_plan};
 
 use crate::errors::{
-    ambiguous, is_null, limit, mismatch, no_memory, no_partition, out_of_range, syntax_error,
-    too_long, unknown_column, wrong_count,
+    ambiguous, is_null, key_changed, limit, mismatch, no_memory, no_partition, out_of_range,
+    syntax_error, too_long, unknown_column, wrong_count,
 };
 use my_messages::Reply;
 use sql_text::ParseFault;
@@ -32,6 +32,7 @@ pub fn plan_reply(alloc: Global, fault: &StmtFault) -> Result<Reply, AllocError>
     match fault {
         StmtFault::NoColumn(name) => unknown_column(alloc, name),
         StmtFault::Ambiguous(name) => ambiguous(alloc, name),
+        StmtFault::KeyChanged => key_changed(alloc),
         StmtFault::ColumnCount { row } => wrong_count(alloc, *row),
         StmtFault::IsNull(name) => is_null(alloc, name),
         StmtFault::TypeMismatch => mismatch(alloc),

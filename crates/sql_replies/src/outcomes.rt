@@ -1,15 +1,17 @@
 //! Statements that were at work.
 ghost use Rattle.std.specs.Prelude.{◌≡◌, ◌≤◌, length, IfOk};
 ghost use Rattle.my_messages.specs.Reply.{HasBytes};
-ghost use Rattle.sql_replies.specs.Outcomes.{limit_in as limit_meant, server_name as name_meant, refusal_reply, found_reply, outcome_reply as reply_to_outcome, IsShowable};
+ghost use Rattle.sql_replies.specs.Outcomes.{limit_in as limit_meant, server_name as name_meant, refusal_reply, found_reply, row_reply as reply_to_row, outcome_reply as reply_to_outcome, IsShowable};
 
-use crate::errors::{backend_refused, done, duplicate, limit, no_memory, shown};
+use crate::errors::{
+    arithmetic, backend_refused, done, duplicate, limit, no_memory, out_of_range, shown, too_long,
+};
 use crate::results::shown_rows;
 use conf_file::HostEntry;
 use my_messages::Reply;
 use sql_values::{Row, TableDef};
 use std::alloc::{AllocError, Global};
-use stmt_plan::Picks;
+use stmt_plan::{Picks, RowFault};
 use txn_phases::{Outcome, Refusal};
 
 /// The number of want of memory.
@@ -68,7 +70,19 @@ fn found(
     }
 }
 
-/// The reply to a statement on this table: for a SELECT with the columns that it asks for, and none for an INSERT.
+/// A row that an UPDATE can't change.
+fn row_refused(alloc: Global, fault: &RowFault) -> Result<Reply, AllocError>
+    ensures reply { IfOk result (λ reply. reply ≡ reply_to_row fault.now) }
+    ensures bytes { IfOk result HasBytes }
+{
+    match fault {
+        RowFault::Arithmetic => arithmetic(alloc),
+        RowFault::OutOfRange { column, row } => out_of_range(alloc, column, *row),
+        RowFault::TooLong { column, row } => too_long(alloc, column, *row),
+    }
+}
+
+/// The reply to a statement on this table: for a SELECT with the columns that it asks for, and none for one that writes.
 ///
 /// `servers` are all servers, by number.
 pub fn outcome_reply(
@@ -83,8 +97,9 @@ pub fn outcome_reply(
 {
     match outcome {
         Outcome::Found(rows) => found(alloc, table, picks, rows.as_slice()),
-        Outcome::Inserted(count) => Ok(done(*count)),
+        Outcome::Done(count) => Ok(done(*count)),
         Outcome::Duplicate(key) => duplicate(alloc, *key),
+        Outcome::RowRefused(fault) => row_refused(alloc, fault),
         Outcome::AnswerLimit => limit(alloc, "answer"),
         Outcome::WriteSetLimit => limit(alloc, "write set"),
         Outcome::Refused(refusal) => refused(alloc, servers, refusal),

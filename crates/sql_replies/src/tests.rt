@@ -8,7 +8,7 @@ use sql_text::ParseFault;
 use sql_values::{ColumnDef, Kind, Name, Rows, TableDef, Value};
 use std::alloc::Global;
 use std::test::Fail;
-use stmt_plan::{Pick, Picks, StmtFault};
+use stmt_plan::{Pick, Picks, RowFault, StmtFault};
 use txn_phases::{Outcome, Refusal};
 
 // Nothing below promises anything to a proof: else each assertion's proof would look into its literals.
@@ -22,7 +22,7 @@ struct Told {
 }
 
 /// What is told of each fault of `fault`, in its order.
-const FAULTS: [Told; 8] = [
+const FAULTS: [Told; 9] = [
     Told {
         number: 1054,
         state: "42S22",
@@ -63,10 +63,15 @@ const FAULTS: [Told; 8] = [
         state: "HY000",
         text: "Table has no partition for value -3",
     },
+    Told {
+        number: 14009,
+        state: "HY000",
+        text: "The key column can't be changed",
+    },
 ];
 
 /// What is told of each outcome of `outcome`, in its order.
-const OUTCOMES: [Told; 6] = [
+const OUTCOMES: [Told; 9] = [
     Told {
         number: 1062,
         state: "23000",
@@ -96,6 +101,21 @@ const OUTCOMES: [Told; 6] = [
         number: 14006,
         state: "HY000",
         text: "Backend s1 refused: 1064",
+    },
+    Told {
+        number: 1690,
+        state: "22003",
+        text: "BIGINT value is out of range",
+    },
+    Told {
+        number: 1264,
+        state: "22003",
+        text: "Out of range value for column 'v' at row 2",
+    },
+    Told {
+        number: 1406,
+        state: "22001",
+        text: "Data too long for column 'v' at row 3",
     },
 ];
 
@@ -131,7 +151,8 @@ fn fault(alloc: Global, case: usize) -> Result<StmtFault, Fail> {
         4 => Ok(StmtFault::TypeMismatch),
         5 => out_of_range(alloc),
         6 => too_long(alloc),
-        _ => Ok(StmtFault::NoPartition(-3)),
+        7 => Ok(StmtFault::NoPartition(-3)),
+        _ => Ok(StmtFault::KeyChanged),
     }
 }
 
@@ -178,8 +199,25 @@ fn outcome(alloc: Global, case: usize) -> Result<Outcome, Fail> {
         2 => Ok(Outcome::WriteSetLimit),
         3 => refusal(alloc, 1037, "Out of memory"),
         4 => refusal(alloc, 14010, "Limit: rows"),
-        _ => refusal(alloc, 1064, "Syntax error at byte 0"),
+        5 => refusal(alloc, 1064, "Syntax error at byte 0"),
+        6 => Ok(Outcome::RowRefused(RowFault::Arithmetic)),
+        7 => row_out_of_range(alloc),
+        _ => row_too_long(alloc),
     }
+}
+
+fn row_out_of_range(alloc: Global) -> Result<Outcome, Fail> {
+    Ok(Outcome::RowRefused(RowFault::OutOfRange {
+        column: name(alloc, "v")?,
+        row: 2,
+    }))
+}
+
+fn row_too_long(alloc: Global) -> Result<Outcome, Fail> {
+    Ok(Outcome::RowRefused(RowFault::TooLong {
+        column: name(alloc, "v")?,
+        row: 3,
+    }))
 }
 
 /// The table t of a BIGINT key k and a VARCHAR(20) v.

@@ -8,7 +8,8 @@ use Rattle.std.proofs.lemmas.Str.{IsUtf8-from_ascii}
 use Rattle.std.proofs.lemmas.Str.Ascii.{IsAscii-nil, IsAscii-cons}
 use Rattle.std.proofs.lemmas.Bool.Decides.{nat_tests, leb_tells}
 use Rattle.sql_values.specs.Names.{is_name, begins_name, continues_name}
-use Rattle.sql_text.specs.Tokens.{value_after, digits_token, signed_token, Plain, Quote, Escape, text_from, onto, onto_some, escape_of, starts, rest_of, Placed, Step, step_at, onward, tokens_within, placed_tokens, tokens_of, link_tokens_of, in_dialect, dialect_tokens}
+use Rattle.sql_text.specs.Tokens.{value_after, digits_token, signed_token, Plain, Quote, Escape, text_from, onto, onto_some, escape_of, starts, rest_of, Placed, Step, step_at, onward, tokens_within, at_start, placed_tokens, tokens_of, link_tokens_of, in_dialect, dialect_tokens}
+use Rattle.sql_text.specs.declared.token.Before.{Before}
 use Rattle.sql_text.specs.declared.token.Dialect.{Dialect}
 use Rattle.sql_text.specs.declared.token.Dialect.TheVariants.{Statements, Links}
 use Rattle.sql_text.specs.Lexing.{cap, onto_all, Piece, piece_at, escape_at, escaped_piece, text_by}
@@ -118,26 +119,26 @@ onto_again front b (Some r) = ap (λ (l : List ℕ). Some (l, r.1)) (append_asso
 some_is : {A : Type 0} (x y : A) → Some x ≡ Some y → x ≡ y
 some_is x y h = cc
 
-onward_none : (again : Bool → List ℕ → List Placed) (s : Step) → s.1 ≡ None → onward again s ≡ s.0
+onward_none : (again : Before → List ℕ → List Placed) (s : Step) → s.1 ≡ None → onward again s ≡ s.0
 onward_none again (found, None) h = refl
 onward_none again (found, Some next) h = absurd cc
 
-onward_some : (again : Bool → List ℕ → List Placed) (s : Step) (touching : Bool) (rest : List ℕ) → s.1 ≡ Some (touching, rest) → onward again s ≡ s.0 ++ again touching rest
-onward_some again (found, None) touching rest h = absurd cc
-onward_some again (found, Some next) touching rest h = ap (λ (p : Bool × List ℕ). found ++ again p.0 p.1) (some_is next (touching, rest) h)
+onward_some : (again : Before → List ℕ → List Placed) (s : Step) (before : Before) (rest : List ℕ) → s.1 ≡ Some (before, rest) → onward again s ≡ s.0 ++ again before rest
+onward_some again (found, None) before rest h = absurd cc
+onward_some again (found, Some next) before rest h = ap (λ (p : Before × List ℕ). found ++ again p.0 p.1) (some_is next (before, rest) h)
 
 -- the last step
-pub last_step : {B : Type 0} (g : Placed → B) (n : ℕ) (touching : Bool) (bytes : List ℕ) (out : List B) → (step_at touching bytes).1 ≡ None
-    → out ++ map g (step_at touching bytes).0 ≡ out ++ map g (tokens_within (suc n) touching bytes)
-last_step g n touching bytes out h = ap (λ (l : List Placed). out ++ map g l) (sym (onward_none (tokens_within n) (step_at touching bytes) h))
+pub last_step : {B : Type 0} (g : Placed → B) (n : ℕ) (before : Before) (bytes : List ℕ) (out : List B) → (step_at before bytes).1 ≡ None
+    → out ++ map g (step_at before bytes).0 ≡ out ++ map g (tokens_within (suc n) before bytes)
+last_step g n before bytes out h = ap (λ (l : List Placed). out ++ map g l) (sym (onward_none (tokens_within n) (step_at before bytes) h))
 
 -- a step, and those behind it
-pub more_steps : {B : Type 0} (g : Placed → B) (n : ℕ) (touching next : Bool) (bytes rest : List ℕ) (out : List B) → (step_at touching bytes).1 ≡ Some (next, rest)
-    → (out ++ map g (step_at touching bytes).0) ++ map g (tokens_within n next rest) ≡ out ++ map g (tokens_within (suc n) touching bytes)
-more_steps {B} g n touching next bytes rest out h =
-    append_assoc out (map g (step_at touching bytes).0) (map g (tokens_within n next rest))
-    ∙ ap (λ (l : List B). out ++ l) (sym (map-append g (step_at touching bytes).0 (tokens_within n next rest)))
-    ∙ ap (λ (l : List Placed). out ++ map g l) (sym (onward_some (tokens_within n) (step_at touching bytes) next rest h))
+pub more_steps : {B : Type 0} (g : Placed → B) (n : ℕ) (before next : Before) (bytes rest : List ℕ) (out : List B) → (step_at before bytes).1 ≡ Some (next, rest)
+    → (out ++ map g (step_at before bytes).0) ++ map g (tokens_within n next rest) ≡ out ++ map g (tokens_within (suc n) before bytes)
+more_steps {B} g n before next bytes rest out h =
+    append_assoc out (map g (step_at before bytes).0) (map g (tokens_within n next rest))
+    ∙ ap (λ (l : List B). out ++ l) (sym (map-append g (step_at before bytes).0 (tokens_within n next rest)))
+    ∙ ap (λ (l : List Placed). out ++ map g l) (sym (onward_some (tokens_within n) (step_at before bytes) next rest h))
 
 -- what the code's answer says of the step
 pub no_step : {A B : Type 0} (f : A → B) (o : Option A) (found : Option B) → option_map f o ≡ found → o ≡ None → found ≡ None
@@ -149,7 +150,7 @@ some_step f None x found h e = absurd cc
 some_step f (Some y) x found h e = sym h ∙ ap (λ v. Some (f v)) (some_is y x e)
 
 -- the tokens of a text of a kind
-pub in_dialect_is : (dialect : Dialect) (text : List ℕ) → map (λ (p : Placed). in_dialect dialect p.0) (tokens_within (length text) false text) ≡ dialect_tokens dialect text
+pub in_dialect_is : (dialect : Dialect) (text : List ℕ) → map (λ (p : Placed). in_dialect dialect p.0) (tokens_within (length text) at_start text) ≡ dialect_tokens dialect text
 unfolding placed_tokens tokens_of link_tokens_of
 in_dialect_is Statements text = refl
 in_dialect_is Links text = refl

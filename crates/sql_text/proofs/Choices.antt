@@ -138,8 +138,8 @@ or_nothing : (b : Bool) → b ≡ (b || false)
 or_nothing true = refl
 or_nothing false = refl
 
-other_kind : (f : Fixed) (n : ℕ) → 46 ≤ n → false ≡ ((n == number_of f) || false)
-other_kind f n h = let below : number_of f < 46 = number_below f in let e : (n == number_of f) ≡ false = grind (arith, nat_tests) in rw e refl
+other_kind : (f : Fixed) (n : ℕ) → 49 ≤ n → false ≡ ((n == number_of f) || false)
+other_kind f n h = let below : number_of f < 49 = number_below f in let e : (n == number_of f) ≡ false = grind (arith, nat_tests) in rw e refl
 
 head_kind : (f : Fixed) (t : Token) (ts : List Token) → begins f (t ∷ ts) ≡ member (kind_of t) (number_of f ∷ [])
 head_kind f (tokens.Fixed g) ts = or_nothing (number_of g == number_of f)
@@ -152,6 +152,17 @@ head_kind f tokens.Bad ts = other_kind f 104 (omega arith)
 
 pub begins_tells : (f : Fixed) → Tells (begins f) (number_of f ∷ [])
 begins_tells f = record { none = refl; head = head_kind f }
+
+or_flat : (b c : Bool) → ((b || false) || (c || false)) ≡ (b || (c || false))
+or_flat true c = refl
+or_flat false c = refl
+
+-- one of two keywords or symbols
+pub either_tells : (f g : Fixed) → Tells (λ ts. begins f ts || begins g ts) (number_of f ∷ number_of g ∷ [])
+either_tells f g = record {
+  none = refl;
+  head = λ t ts. (ap (λ b. b || begins g (t ∷ ts)) (head_kind f t ts) ∙ ap (λ b. member (kind_of t) (number_of f ∷ []) || b) (head_kind g t ts)) ∙ or_flat (kind_of t == number_of f) (kind_of t == number_of g);
+}
 
 -- ---- reading behind a keyword that was looked at
 

@@ -1,6 +1,6 @@
 -- The definitions on examples.
-use Rattle.std.proofs.Common.{◌≡◌, ℕ, List, [], ◌∷◌, Some, None, Ok, Err, pos, negsuc, refl, codes, true}
-use Rattle.sql_text.specs.declared.token.Fixed.TheVariants.{From, Select, Comma, Dot, NotEqual, Less, AtMost}
+use Rattle.std.proofs.Common.{◌≡◌, ℕ, List, [], ◌∷◌, Some, None, Ok, Err, pos, negsuc, refl, codes, true, false}
+use Rattle.sql_text.specs.declared.token.Fixed.TheVariants.{From, Select, Open, Close, Comma, Dot, Star, Plus, Minus, Equal, NotEqual, Less, AtMost}
 use Rattle.sql_text.specs.declared.token.Token.TheVariants as tokens
 use Rattle.sql_values.specs.declared.literal.Literal.TheVariants as literals
 use Rattle.sql_values.specs.declared.tree.ColumnName.{ColumnName}
@@ -8,10 +8,14 @@ use Rattle.sql_values.specs.declared.tree.Comparison.TheVariants as comparisons
 use Rattle.sql_values.specs.declared.tree.Operand.TheVariants as operands
 use Rattle.sql_values.specs.declared.tree.Cond.{Cond}
 use Rattle.sql_values.specs.declared.tree.Cond.TheVariants as conds
+use Rattle.sql_values.specs.declared.tree.Expr.{Expr}
+use Rattle.sql_values.specs.declared.tree.Expr.TheVariants as exprs
+use Rattle.sql_values.specs.declared.places.LockMode.TheVariants as locks
+use Rattle.sql_text.specs.Grammar.{addend}
 use Rattle.sql_text.specs.declared.statement.Statement.TheVariants as statements
 use Rattle.sql_text.specs.declared.statement.SelectItems.TheVariants as items
 use Rattle.sql_text.specs.Tokens.{placed_tokens, tokens_of}
-use Rattle.sql_text.specs.Reading.{statement_at, body_at, insert_at, expect, optional_at, table_at, column_list_at, literal_list_at, open_at, literal_at, name_at, select_at, select_items_at, item_at, column_at, alias_at, tab_at, where_at, cond_at, neg_at, comparison_at, behind_column_at, compared_at, operand_at, behind_not_at, ranged_at}
+use Rattle.sql_text.specs.Reading.{statement_at, body_at, insert_at, expect, optional_at, table_at, column_list_at, literal_list_at, open_at, literal_at, name_at, select_at, select_items_at, item_at, column_at, alias_at, tab_at, where_at, locked_at, lock_at, for_update_at, cond_at, neg_at, comparison_at, behind_column_at, compared_at, operand_at, behind_not_at, ranged_at, plain_at, factor_at, expr_at, assignment_at, update_at, delete_at}
 
 words : placed_tokens (codes "Select a_1, `b`.c FROM spider.t") ≡
     ((tokens.Fixed Select, 31) ∷ (tokens.Bare (codes "a_1"), 24) ∷ (tokens.Fixed Comma, 21) ∷ (tokens.Quoted (codes "b"), 19) ∷ (tokens.Fixed Dot, 16) ∷ (tokens.Bare (codes "c"), 15)
@@ -19,10 +23,22 @@ words : placed_tokens (codes "Select a_1, `b`.c FROM spider.t") ≡
 unfolding placed_tokens
 words = refl
 
-numbers : tokens_of (codes "-1+2 3 <>!=<=<") ≡
-    (tokens.Signed (negsuc 0) ∷ tokens.Signed (pos 2) ∷ tokens.Digits (pos 3) ∷ tokens.Fixed NotEqual ∷ tokens.Fixed NotEqual ∷ tokens.Fixed AtMost ∷ tokens.Fixed Less ∷ [])
+numbers : tokens_of (codes "-1,+2 3 <>!=<=<") ≡
+    (tokens.Signed (negsuc 0) ∷ tokens.Fixed Comma ∷ tokens.Signed (pos 2) ∷ tokens.Digits (pos 3) ∷ tokens.Fixed NotEqual ∷ tokens.Fixed NotEqual ∷ tokens.Fixed AtMost ∷ tokens.Fixed Less ∷ [])
 unfolding tokens_of placed_tokens
 numbers = refl
+
+-- a sign before digits is an operator behind what ends an operand, also with blanks between, and belongs to the digits elsewhere
+operators : tokens_of (codes "v-1 v /* c */ -1 v - 1") ≡
+    (tokens.Bare (codes "v") ∷ tokens.Fixed Minus ∷ tokens.Digits (pos 1) ∷ tokens.Bare (codes "v") ∷ tokens.Fixed Minus ∷ tokens.Digits (pos 1) ∷ tokens.Bare (codes "v") ∷ tokens.Fixed Minus ∷ tokens.Digits (pos 1) ∷ [])
+unfolding tokens_of placed_tokens
+operators = refl
+
+signs : tokens_of (codes "v=-1 - -1)+1(*-1") ≡
+    (tokens.Bare (codes "v") ∷ tokens.Fixed Equal ∷ tokens.Signed (negsuc 0) ∷ tokens.Fixed Minus ∷ tokens.Signed (negsuc 0) ∷ tokens.Fixed Close ∷ tokens.Fixed Plus ∷ tokens.Digits (pos 1) ∷ tokens.Fixed Open ∷ tokens.Fixed Star
+    ∷ tokens.Signed (negsuc 0) ∷ [])
+unfolding tokens_of placed_tokens
+signs = refl
 
 touching : placed_tokens (codes "1/* c */a 1a") ≡ ((tokens.Digits (pos 1), 12) ∷ (tokens.Bare (codes "a"), 4) ∷ (tokens.Digits (pos 1), 2) ∷ (tokens.Bad, 1) ∷ [])
 unfolding placed_tokens
@@ -63,6 +79,39 @@ selected : statement_at 0 (tokens_of (codes "SELECT a AS x, t.b FROM spider.t u 
       items = items.Columns (record { column = bare (codes "a"); alias = Some (codes "x") } ∷ record { column = record { table = Some (codes "t"); column = codes "b" }; alias = None } ∷ []);
       tab = record { table = codes "t"; alias = Some (codes "u") };
       cond = Some (conds.Between (bare (codes "a")) true (literals.Number (negsuc 0)) (literals.Number (pos 2)));
+      lock = None;
     }))
-unfolding bare tokens_of placed_tokens statement_at body_at select_at select_items_at item_at column_at alias_at tab_at where_at cond_at neg_at comparison_at behind_column_at behind_not_at ranged_at expect optional_at table_at literal_at name_at
+unfolding bare tokens_of placed_tokens statement_at body_at select_at select_items_at item_at column_at alias_at tab_at where_at locked_at cond_at neg_at comparison_at behind_column_at behind_not_at ranged_at expect optional_at table_at literal_at name_at
 selected = refl
+
+number : ℕ → Expr
+number n = exprs.Literal (literals.Number (pos n))
+
+-- minus of a factor binds tighter than `*`, and that tighter than `+` and `-`, which go from the left; parentheses leave nothing else behind
+sums : expr_at 1 (tokens_of (codes "a -1*- 2 + (3 - 4)")) ≡
+    Ok (exprs.Sum (addend false (exprs.Column (bare (codes "a"))) ∷ addend true (exprs.Product (number 1 ∷ exprs.Negated (number 2) ∷ [])) ∷ addend false (exprs.Sum (addend false (number 3) ∷ addend true (number 4) ∷ [])) ∷ []), [])
+unfolding bare number tokens_of placed_tokens expr_at factor_at plain_at column_at name_at literal_at expect
+sums = refl
+
+-- the second of two openings inside one another is one too many
+too_deep_expr : expr_at 1 (tokens_of (codes "- 1 + -(2)")) ≡ Err (record { deep = true; left = 3 })
+unfolding tokens_of placed_tokens expr_at factor_at plain_at literal_at
+too_deep_expr = refl
+
+updated : statement_at 0 (tokens_of (codes "update t set v = v+1, w = -2")) ≡
+    Ok (statements.Update (record {
+      table = codes "t";
+      sets = record { column = codes "v"; value = exprs.Sum (addend false (exprs.Column (bare (codes "v"))) ∷ addend false (number 1) ∷ []) } ∷ record { column = codes "w"; value = exprs.Literal (literals.Number (negsuc 1)) } ∷ [];
+      cond = None;
+    }))
+unfolding bare number tokens_of placed_tokens statement_at body_at update_at assignment_at expr_at factor_at plain_at column_at where_at expect optional_at table_at literal_at name_at
+updated = refl
+
+deleted : statement_at 0 (tokens_of (codes "DELETE FROM spider.t;")) ≡ Ok (statements.Delete (record { table = codes "t"; cond = None }))
+unfolding tokens_of placed_tokens statement_at body_at delete_at where_at expect optional_at table_at name_at
+deleted = refl
+
+locked_for_update : statement_at 0 (tokens_of (codes "select * from t for update")) ≡
+    Ok (statements.Select (record { items = items.All; tab = record { table = codes "t"; alias = None }; cond = None; lock = Some locks.Exclusive }))
+unfolding tokens_of placed_tokens statement_at body_at select_at select_items_at alias_at tab_at where_at locked_at lock_at for_update_at expect optional_at table_at name_at
+locked_for_update = refl

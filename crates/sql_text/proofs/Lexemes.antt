@@ -13,17 +13,17 @@ use Rattle.std.proofs.lemmas.Bool.Decides.{nat_tests}
 use Rattle.std.proofs.Common.{rules}
 use Rattle.sql_values.specs.Names.{is_name, begins_name, continues_name}
 use Rattle.sql_text.specs.declared.token.Fixed.{Fixed}
-use Rattle.sql_text.specs.declared.token.Fixed.TheVariants.{And, As, Between, From, In, Insert, Into, Not, Null, Or, Select, Values, Where, Open, Close, Comma, Dot, Star, Equal, NotEqual, Less, AtMost, Greater, AtLeast}
+use Rattle.sql_text.specs.declared.token.Fixed.TheVariants.{And, As, Between, Delete, For, From, In, Insert, Into, Lock, Mode, Not, Null, Or, Select, Set, Share, Update, Values, Where, Open, Close, Comma, Dot, Star, Plus, Minus, Equal, NotEqual, Less, AtMost, Greater, AtLeast}
 use Rattle.sql_values.specs.declared.tree.Comparison.{Comparison}
 use Rattle.sql_values.specs.declared.tree.Comparison.TheVariants as comparisons
 use Rattle.sql_text.specs.Grammar.{comparison_of}
 use Rattle.sql_text.specs.declared.token.Token.{Token}
 use Rattle.sql_text.specs.declared.token.Token.TheVariants as tokens
-use Rattle.sql_text.specs.Tokens.{run, value_after, digits_token, signed_token, Plain, onto, text_from, up_to, lexeme_at, is_bad, is_blank, starts, rest_of, comment_at, skipped, seen, word_at, word_token, keyword_of, digits_at, other_at}
+use Rattle.sql_text.specs.Tokens.{run, value_after, digits_token, signed_token, Plain, onto, text_from, up_to, lexeme_at, is_bad, is_blank, starts, rest_of, comment_at, skipped, seen, word_at, word_token, keyword_of, digits_at, other_at, ends_operand}
 use Rattle.sql_text.specs.Printing.{escaped, quoted, name_text, comparison_text}
 use Rattle.sql_text.proofs.Fields.{and_true}
 use Rattle.sql_text.proofs.Bytes.{name_utf8}
-use Rattle.sql_text.proofs.Written.{Has, has_token, has_symbol, has_blank, Stops, Atom, Suffix, Prefix, Separator}
+use Rattle.sql_text.proofs.Written.{Has, has_token, has_symbol, has_blank, apart_from, behind_token, Stops, AtomAt, Atom, Suffix, PrefixAt, Prefix, SeparatorAt, Separator, prefix_atom, prefix_prefix, separator_atom}
 
 -- NAMES
 
@@ -52,8 +52,8 @@ name_continues (b ∷ n) h =
     let q = and_true (nat_lt (length n) 64) (list_all continues_name n) p.1 in
     both_true (continues_name b) (list_all continues_name n) (begins_continues b p.0) q.1
 
-quoted_name_at : (n rest : List ℕ) → is_name n ≡ true → lexeme_at (96 ∷ (n ++ (96 ∷ rest))) ≡ (Some (tokens.Quoted n), rest)
-quoted_name_at n rest h = rw (up_to_end n rest (name_continues n h), h) refl
+quoted_name_at : (operand : Bool) (n rest : List ℕ) → is_name n ≡ true → lexeme_at operand (96 ∷ (n ++ (96 ∷ rest))) ≡ (Some (tokens.Quoted n), rest)
+quoted_name_at operand n rest h = rw (up_to_end n rest (name_continues n h), h) refl
 
 length_behind : (a b : List ℕ) (c : ℕ) → length b ≤ length (a ++ (c ∷ b))
 length_behind [] b c = omega arith
@@ -153,22 +153,22 @@ length_later [] b = omega arith
 length_later (x ∷ a) b = omega (arith, length_later a b)
 
 -- what begins with a digit is read as digits
-digit_lexeme : (d : ℕ) (bytes : List ℕ) (t : Token) (rest : List ℕ) → is_blank d ≡ false → (d == 47) ≡ false → begins_name d ≡ false → is_ascii_digit d ≡ true
-    → ◌≡◌ {A = Token × List ℕ} (digits_token (value_after 0 (run is_ascii_digit (d ∷ bytes)).0), (run is_ascii_digit (d ∷ bytes)).1) (t, rest) → lexeme_at (d ∷ bytes) ≡ (Some t, rest)
-digit_lexeme d bytes t rest blank slash letter digit e =
-    third_false (is_blank d) ((d == 47) && starts 42 bytes) (begins_name d) (is_ascii_digit d) (None, bytes) (skipped (comment_at (rest_of bytes))) (seen (word_at (d ∷ bytes))) (seen (digits_at (d ∷ bytes))) (seen (other_at d bytes))
+digit_lexeme : (operand : Bool) (d : ℕ) (bytes : List ℕ) (t : Token) (rest : List ℕ) → is_blank d ≡ false → (d == 47) ≡ false → begins_name d ≡ false → is_ascii_digit d ≡ true
+    → ◌≡◌ {A = Token × List ℕ} (digits_token (value_after 0 (run is_ascii_digit (d ∷ bytes)).0), (run is_ascii_digit (d ∷ bytes)).1) (t, rest) → lexeme_at operand (d ∷ bytes) ≡ (Some t, rest)
+digit_lexeme operand d bytes t rest blank slash letter digit e =
+    third_false (is_blank d) ((d == 47) && starts 42 bytes) (begins_name d) (is_ascii_digit d) (None, bytes) (skipped (comment_at (rest_of bytes))) (seen (word_at (d ∷ bytes))) (seen (digits_at (d ∷ bytes))) (seen (other_at operand d bytes))
     blank (and_left_false (d == 47) (starts 42 bytes) slash) letter digit
     ∙ ap seen e
 
--- what begins with a minus before a digit is read as digits with a sign
+-- what begins with a minus before a digit, where no operand ends before it, is read as digits with a sign
 signed_lexeme : (d : ℕ) (bytes : List ℕ) (t : Token) (rest : List ℕ) → is_ascii_digit d ≡ true
-    → ◌≡◌ {A = Option Token × List ℕ} (Some (signed_token true (value_after 0 (run is_ascii_digit (d ∷ bytes)).0)), (run is_ascii_digit (d ∷ bytes)).1) (Some t, rest) → lexeme_at (45 ∷ (d ∷ bytes)) ≡ (Some t, rest)
+    → ◌≡◌ {A = Option Token × List ℕ} (Some (signed_token true (value_after 0 (run is_ascii_digit (d ∷ bytes)).0)), (run is_ascii_digit (d ∷ bytes)).1) (Some t, rest) → lexeme_at false (45 ∷ (d ∷ bytes)) ≡ (Some t, rest)
 signed_lexeme d bytes t rest digit e =
-    ap seen (chosen_first (is_ascii_digit d) (signed_token true (value_after 0 (run is_ascii_digit (d ∷ bytes)).0), (run is_ascii_digit (d ∷ bytes)).1) (tokens.Bad, bytes) digit) ∙ e
+    ap seen (chosen_first (is_ascii_digit d && true) (signed_token true (value_after 0 (run is_ascii_digit (d ∷ bytes)).0), (run is_ascii_digit (d ∷ bytes)).1) (tokens.Fixed Minus, d ∷ bytes) (both_true (is_ascii_digit d) true digit refl)) ∙ e
 
 -- digits before what doesn't go on with them
-digits_lexeme : (n : ℕ) (d : ℕ) (ds rest : List ℕ) → all_ascii_digits (d ∷ ds) ≡ true → value_after 0 (d ∷ ds) ≡ n → n < 2 ^ 127 → Stops rest → lexeme_at (d ∷ (ds ++ rest)) ≡ (Some (tokens.Digits (pos n)), rest)
-digits_lexeme n d ds rest h v small stops =
+digits_lexeme : (operand : Bool) (n : ℕ) (d : ℕ) (ds rest : List ℕ) → all_ascii_digits (d ∷ ds) ≡ true → value_after 0 (d ∷ ds) ≡ n → n < 2 ^ 127 → Stops rest → lexeme_at operand (d ∷ (ds ++ rest)) ≡ (Some (tokens.Digits (pos n)), rest)
+digits_lexeme operand n d ds rest h v small stops =
     let p = and_true (is_ascii_digit d) (all_ascii_digits ds) h in
     let q = digit_is d p.0 in
     let r : run is_ascii_digit (d ∷ (ds ++ rest)) ≡ (d ∷ ds, rest) = digits_run (d ∷ ds) rest h stops in
@@ -176,9 +176,9 @@ digits_lexeme n d ds rest h v small stops =
     let token : digits_token (value_after 0 (d ∷ ds)) ≡ tokens.Digits (pos n) = ap digits_token v ∙ (rw fits refl) in
     let read : ◌≡◌ {A = Token × List ℕ} (digits_token (value_after 0 (run is_ascii_digit (d ∷ (ds ++ rest))).0), (run is_ascii_digit (d ∷ (ds ++ rest))).1) (tokens.Digits (pos n), rest) =
     ap (λ (x : List ℕ × List ℕ). (digits_token (value_after 0 x.0), x.1)) r ∙ ap (λ (t : Token). (t, rest)) token in
-    digit_lexeme d (ds ++ rest) (tokens.Digits (pos n)) rest q.0 q.1 q.2 p.0 read
+    digit_lexeme operand d (ds ++ rest) (tokens.Digits (pos n)) rest q.0 q.1 q.2 p.0 read
 
-minus_lexeme : (n : ℕ) (d : ℕ) (ds rest : List ℕ) → all_ascii_digits (d ∷ ds) ≡ true → value_after 0 (d ∷ ds) ≡ suc n → n < 2 ^ 127 → Stops rest → lexeme_at (45 ∷ (d ∷ (ds ++ rest))) ≡ (Some (tokens.Signed (negsuc n)), rest)
+minus_lexeme : (n : ℕ) (d : ℕ) (ds rest : List ℕ) → all_ascii_digits (d ∷ ds) ≡ true → value_after 0 (d ∷ ds) ≡ suc n → n < 2 ^ 127 → Stops rest → lexeme_at false (45 ∷ (d ∷ (ds ++ rest))) ≡ (Some (tokens.Signed (negsuc n)), rest)
 minus_lexeme n d ds rest h v small stops =
     let p = and_true (is_ascii_digit d) (all_ascii_digits ds) h in
     let r : run is_ascii_digit (d ∷ (ds ++ rest)) ≡ (d ∷ ds, rest) = digits_run (d ∷ ds) rest h stops in
@@ -246,33 +246,34 @@ pub record Fixes (change : Token → Token) : Type 0 where
   pub text : (t : List ℕ) → change (tokens.Text t) ≡ tokens.Text t
 
 module _ (change : Token → Token) (fixes : Fixes change) where
-  pub name_atom : (n : List ℕ) → is_name n ≡ true → (Atom change) (name_text n) (tokens.Quoted n ∷ [])
-  name_atom n h = record {
+  pub name_atom : (operand : Bool) (n : List ℕ) → is_name n ≡ true → (AtomAt change) operand (name_text n) (tokens.Quoted n ∷ [])
+  name_atom operand n h = record {
     reads = λ rest more stops again.
-        let e : lexeme_at (96 ∷ ((n ++ (96 ∷ [])) ++ rest)) ≡ (Some (tokens.Quoted n), rest) = ap (λ (l : List ℕ). lexeme_at (96 ∷ l)) (append_assoc n (96 ∷ []) rest) ∙ quoted_name_at n rest h in
+        let e : lexeme_at operand (96 ∷ ((n ++ (96 ∷ [])) ++ rest)) ≡ (Some (tokens.Quoted n), rest) = ap (λ (l : List ℕ). lexeme_at operand (96 ∷ l)) (append_assoc n (96 ∷ []) rest) ∙ quoted_name_at operand n rest h in
         let l : length rest ≤ length ((n ++ (96 ∷ [])) ++ rest) = subst (λ (s : List ℕ). length rest ≤ length s) (sym (append_assoc n (96 ∷ []) rest)) (length_behind n rest 96) in
-        has_symbol change false 96 ((n ++ (96 ∷ [])) ++ rest) (tokens.Quoted n) (tokens.Quoted n) rest more (fixes.quoted n) refl e refl l (again false);
+        has_symbol change (apart_from operand) 96 ((n ++ (96 ∷ [])) ++ rest) (tokens.Quoted n) (tokens.Quoted n) true rest more (fixes.quoted n) refl e refl refl l (again (apart_from true));
     utf8 = enclosed_utf8 96 96 n (omega arith) (omega arith) (name_utf8 n h);
   }
 
-  pub text_atom : (t : List ℕ) → IsUtf8 t → IsUtf8 (flat_map escaped t) → (Atom change) (quoted t) (tokens.Text t ∷ [])
-  text_atom t u v = record {
+  pub text_atom : (operand : Bool) (t : List ℕ) → IsUtf8 t → IsUtf8 (flat_map escaped t) → (AtomAt change) operand (quoted t) (tokens.Text t ∷ [])
+  text_atom operand t u v = record {
     reads = λ rest more stops again.
-        let e : lexeme_at (39 ∷ ((flat_map escaped t ++ (39 ∷ [])) ++ rest)) ≡ (Some (tokens.Text t), rest) =
-        ap (λ (l : List ℕ). lexeme_at (39 ∷ l)) (append_assoc (flat_map escaped t) (39 ∷ []) rest) ∙ (rw (text_read t rest stops, utf8_lossy-IsUtf8 t u) refl) in
+        let e : lexeme_at operand (39 ∷ ((flat_map escaped t ++ (39 ∷ [])) ++ rest)) ≡ (Some (tokens.Text t), rest) =
+        ap (λ (l : List ℕ). lexeme_at operand (39 ∷ l)) (append_assoc (flat_map escaped t) (39 ∷ []) rest) ∙ (rw (text_read t rest stops, utf8_lossy-IsUtf8 t u) refl) in
         let l : length rest ≤ length ((flat_map escaped t ++ (39 ∷ [])) ++ rest) = subst (λ (s : List ℕ). length rest ≤ length s) (sym (append_assoc (flat_map escaped t) (39 ∷ []) rest)) (length_behind (flat_map escaped t) rest 39) in
-        has_symbol change false 39 ((flat_map escaped t ++ (39 ∷ [])) ++ rest) (tokens.Text t) (tokens.Text t) rest more (fixes.text t) refl e refl l (again false);
+        has_symbol change (apart_from operand) 39 ((flat_map escaped t ++ (39 ∷ [])) ++ rest) (tokens.Text t) (tokens.Text t) true rest more (fixes.text t) refl e refl refl l (again (apart_from true));
     utf8 = enclosed_utf8 39 39 (flat_map escaped t) (omega arith) (omega arith) v;
   }
 
-  pub digits_atom : (n : ℕ) → n < 2 ^ 127 → (Atom change) (signed_decimal (pos n)) (tokens.Digits (pos n) ∷ [])
-  digits_atom n small =
+  pub digits_atom : (operand : Bool) (n : ℕ) → n < 2 ^ 127 → (AtomAt change) operand (signed_decimal (pos n)) (tokens.Digits (pos n) ∷ [])
+  digits_atom operand n small =
       let k = numeral n (omega arith) in
       record {
         reads = λ rest more stops again.
-            let e = digits_lexeme n k.first k.others rest k.digits k.value small stops in
-            subst (λ (l : List ℕ). Has change false (l ++ rest) (tokens.Digits (pos n) ∷ more)) (sym k.is)
-            (has_token change false k.first (k.others ++ rest) (tokens.Digits (pos n)) (tokens.Digits (pos n)) rest more (fixes.digits (pos n)) refl e refl (length_later k.others rest) (again (continues_name k.first)));
+            let e = digits_lexeme operand n k.first k.others rest k.digits k.value small stops in
+            subst (λ (l : List ℕ). Has change (apart_from operand) (l ++ rest) (tokens.Digits (pos n) ∷ more)) (sym k.is)
+            (has_token change (apart_from operand) k.first (k.others ++ rest) (tokens.Digits (pos n)) (tokens.Digits (pos n)) true rest more (fixes.digits (pos n)) refl e refl refl (length_later k.others rest)
+            (again (behind_token k.first true)));
         utf8 = k.utf8;
       }
 
@@ -282,138 +283,191 @@ module _ (change : Token → Token) (fixes : Fixes change) where
       record {
         reads = λ rest more stops again.
             let e = minus_lexeme n k.first k.others rest k.digits k.value small stops in
-            subst (λ (l : List ℕ). Has change false (45 ∷ (l ++ rest)) (tokens.Signed (negsuc n) ∷ more)) (sym k.is)
-            (has_symbol change false 45 (k.first ∷ (k.others ++ rest)) (tokens.Signed (negsuc n)) (tokens.Signed (negsuc n)) rest more (fixes.signed (negsuc n)) refl e refl (omega (arith, length_later k.others rest)) (again false));
+            subst (λ (l : List ℕ). Has change (apart_from false) (45 ∷ (l ++ rest)) (tokens.Signed (negsuc n) ∷ more)) (sym k.is)
+            (has_symbol change (apart_from false) 45 (k.first ∷ (k.others ++ rest)) (tokens.Signed (negsuc n)) (tokens.Signed (negsuc n)) true rest more (fixes.signed (negsuc n)) refl e refl refl (omega (arith, length_later k.others rest))
+            (again (apart_from true)));
         utf8 = IsUtf8-append (45 ∷ []) (decimal (suc n)) (ascii_utf8_one 45 (omega arith)) k.utf8;
       }
 
-  pub null_atom : (Atom change) (codes "NULL") (tokens.Fixed Null ∷ [])
-  null_atom = record {
+  -- a keyword before what doesn't go on with it
+  pub word_atom : (operand : Bool) (c : ℕ) (cs : List ℕ) (f : Fixed) → ((rest : List ℕ) → Stops rest → lexeme_at operand (c ∷ (cs ++ rest)) ≡ (Some (tokens.Fixed f), rest)) → is_plain (c ∷ cs) ≡ true
+      → (AtomAt change) operand (c ∷ cs) (tokens.Fixed f ∷ [])
+  word_atom operand c cs f e u = record {
     reads = λ rest more stops again.
-        has_token change false 78 (85 ∷ 76 ∷ 76 ∷ rest) (tokens.Fixed Null) (tokens.Fixed Null) rest more (fixes.fixed Null) refl (ap seen (keyword_at (codes "NULL") rest Null refl refl stops)) refl (omega arith) (again true);
-    utf8 = plain_utf8 (codes "NULL") refl;
+        has_token change (apart_from operand) c (cs ++ rest) (tokens.Fixed f) (tokens.Fixed f) (ends_operand (tokens.Fixed f)) rest more (fixes.fixed f) refl (e rest stops) refl refl (length_later cs rest)
+        (again (behind_token c (ends_operand (tokens.Fixed f))));
+    utf8 = plain_utf8 (c ∷ cs) u;
   }
+
+  pub null_atom : (Atom change) (codes "NULL") (tokens.Fixed Null ∷ [])
+  null_atom = word_atom false 78 (codes "ULL") Null (λ rest stops. ap seen (keyword_at (codes "NULL") rest Null refl refl stops)) refl
 
   pub negation_suffix : (Suffix change) (codes " NOT") (tokens.Fixed Not ∷ [])
   negation_suffix = record {
-    reads = λ touching rest more stops again.
-        has_blank change touching (78 ∷ 79 ∷ 84 ∷ rest) (tokens.Fixed Not ∷ more)
-        (has_token change false 78 (79 ∷ 84 ∷ rest) (tokens.Fixed Not) (tokens.Fixed Not) rest more (fixes.fixed Not) refl (ap seen (keyword_at (codes "NOT") rest Not refl refl stops)) refl (omega arith) (again true));
+    reads = λ before rest more stops again.
+        has_blank change before (78 ∷ 79 ∷ 84 ∷ rest) (tokens.Fixed Not ∷ more)
+        ((word_atom before.operand 78 (codes "OT") Not (λ rest stops. ap seen (keyword_at (codes "NOT") rest Not refl refl stops)) refl).reads rest more stops again);
     stops = λ rest h. refl;
     utf8 = plain_utf8 (codes " NOT") refl;
   }
 
   -- a keyword or symbol with a blank on each side
-  pub spaced : (c : ℕ) (cs : List ℕ) (f : Fixed) → ((rest : List ℕ) → lexeme_at (c ∷ (cs ++ (32 ∷ rest))) ≡ (Some (tokens.Fixed f), 32 ∷ rest)) → is_plain (32 ∷ (c ∷ (cs ++ (32 ∷ [])))) ≡ true
-      → (Separator change) (32 ∷ (c ∷ (cs ++ (32 ∷ [])))) (tokens.Fixed f ∷ [])
-  spaced c cs f e u = record {
-    reads = λ touching rest more again.
-        subst (λ (l : List ℕ). Has change touching (32 ∷ (c ∷ l)) (tokens.Fixed f ∷ more)) (sym (append_assoc cs (32 ∷ []) rest))
-        (has_blank change touching (c ∷ (cs ++ (32 ∷ rest))) (tokens.Fixed f ∷ more)
-        (has_token change false c (cs ++ (32 ∷ rest)) (tokens.Fixed f) (tokens.Fixed f) (32 ∷ rest) more (fixes.fixed f) refl (e rest) refl (length_later cs (32 ∷ rest)) (has_blank change (continues_name c) rest more again)));
+  pub spaced : (c : ℕ) (cs : List ℕ) (f : Fixed) → ((operand : Bool) (rest : List ℕ) → lexeme_at operand (c ∷ (cs ++ (32 ∷ rest))) ≡ (Some (tokens.Fixed f), 32 ∷ rest)) → ends_operand (tokens.Fixed f) ≡ false
+      → is_plain (32 ∷ (c ∷ (cs ++ (32 ∷ [])))) ≡ true → (Separator change) (32 ∷ (c ∷ (cs ++ (32 ∷ [])))) (tokens.Fixed f ∷ [])
+  spaced c cs f e ends u = record {
+    reads = λ before rest more again.
+        subst (λ (l : List ℕ). Has change before (32 ∷ (c ∷ l)) (tokens.Fixed f ∷ more)) (sym (append_assoc cs (32 ∷ []) rest))
+        (has_blank change before (c ∷ (cs ++ (32 ∷ rest))) (tokens.Fixed f ∷ more)
+        (has_token change (apart_from before.operand) c (cs ++ (32 ∷ rest)) (tokens.Fixed f) (tokens.Fixed f) false (32 ∷ rest) more (fixes.fixed f) refl (e before.operand rest) refl ends (length_later cs (32 ∷ rest))
+        (has_blank change (behind_token c false) rest more again)));
     stops = λ rest. refl;
     utf8 = plain_utf8 (32 ∷ (c ∷ (cs ++ (32 ∷ [])))) u;
   }
 
   -- one symbol
-  pub symbol : (c : ℕ) (f : Fixed) → continues_name c ≡ false → (continues_name c || c == 39) ≡ false → ((rest : List ℕ) → lexeme_at (c ∷ rest) ≡ (Some (tokens.Fixed f), rest)) → is_plain (c ∷ []) ≡ true → (Separator change) (c ∷ []) (tokens.Fixed f ∷ [])
-  symbol c f other stops e u = record {
-    reads = λ touching rest more again. has_symbol change touching c rest (tokens.Fixed f) (tokens.Fixed f) rest more (fixes.fixed f) other (e rest) refl (omega arith) again;
+  pub symbol : (c : ℕ) (f : Fixed) (ends : Bool) → continues_name c ≡ false → (continues_name c || c == 39) ≡ false → ((operand : Bool) (rest : List ℕ) → lexeme_at operand (c ∷ rest) ≡ (Some (tokens.Fixed f), rest)) → ends_operand (tokens.Fixed f) ≡ ends
+      → is_plain (c ∷ []) ≡ true → (SeparatorAt change) ends (c ∷ []) (tokens.Fixed f ∷ [])
+  symbol c f ends other stops e is u = record {
+    reads = λ before rest more again. has_symbol change before c rest (tokens.Fixed f) (tokens.Fixed f) ends rest more (fixes.fixed f) other (e before.operand rest) refl is (omega arith) again;
     stops = λ rest. stops;
     utf8 = plain_utf8 (c ∷ []) u;
   }
 
   pub open_symbol : (Separator change) (codes "(") (tokens.Fixed Open ∷ [])
-  open_symbol = symbol 40 Open refl refl (λ rest. refl) refl
+  open_symbol = symbol 40 Open false refl refl (λ operand rest. refl) refl refl
 
-  pub close_symbol : (Separator change) (codes ")") (tokens.Fixed Close ∷ [])
-  close_symbol = symbol 41 Close refl refl (λ rest. refl) refl
+  pub close_symbol : (SeparatorAt change) true (codes ")") (tokens.Fixed Close ∷ [])
+  close_symbol = symbol 41 Close true refl refl (λ operand rest. refl) refl refl
 
   pub comma_symbol : (Separator change) (codes ",") (tokens.Fixed Comma ∷ [])
-  comma_symbol = symbol 44 Comma refl refl (λ rest. refl) refl
+  comma_symbol = symbol 44 Comma false refl refl (λ operand rest. refl) refl refl
 
   pub dot_symbol : (Separator change) (codes ".") (tokens.Fixed Dot ∷ [])
-  dot_symbol = symbol 46 Dot refl refl (λ rest. refl) refl
+  dot_symbol = symbol 46 Dot false refl refl (λ operand rest. refl) refl refl
 
   pub star_symbol : (Separator change) (codes "*") (tokens.Fixed Star ∷ [])
-  star_symbol = symbol 42 Star refl refl (λ rest. refl) refl
+  star_symbol = symbol 42 Star false refl refl (λ operand rest. refl) refl refl
 
   -- a symbol and a blank behind it, and a symbol and a blank before it
   pub spaced_comma : (Separator change) (codes ", ") (tokens.Fixed Comma ∷ [])
   spaced_comma = record {
-    reads = λ touching rest more again. has_symbol change touching 44 (32 ∷ rest) (tokens.Fixed Comma) (tokens.Fixed Comma) (32 ∷ rest) more (fixes.fixed Comma) refl refl refl (omega arith) (has_blank change false rest more again);
+    reads = λ before rest more again.
+        has_symbol change before 44 (32 ∷ rest) (tokens.Fixed Comma) (tokens.Fixed Comma) false (32 ∷ rest) more (fixes.fixed Comma) refl refl refl refl (omega arith) (has_blank change (apart_from false) rest more again);
     stops = λ rest. refl;
     utf8 = plain_utf8 (codes ", ") refl;
   }
 
   pub spaced_open : (Separator change) (codes " (") (tokens.Fixed Open ∷ [])
   spaced_open = record {
-    reads = λ touching rest more again. has_blank change touching (40 ∷ rest) (tokens.Fixed Open ∷ more) (has_symbol change false 40 rest (tokens.Fixed Open) (tokens.Fixed Open) rest more (fixes.fixed Open) refl refl refl (omega arith) again);
+    reads = λ before rest more again. has_blank change before (40 ∷ rest) (tokens.Fixed Open ∷ more) (open_symbol.reads (apart_from before.operand) rest more again);
     stops = λ rest. refl;
     utf8 = plain_utf8 (codes " (") refl;
   }
 
   pub in_text : (Separator change) (codes " IN (") (tokens.Fixed In ∷ tokens.Fixed Open ∷ [])
   in_text = record {
-    reads = λ touching rest more again.
-        has_blank change touching (73 ∷ 78 ∷ 32 ∷ 40 ∷ rest) (tokens.Fixed In ∷ tokens.Fixed Open ∷ more)
-        (has_token change false 73 (78 ∷ 32 ∷ 40 ∷ rest) (tokens.Fixed In) (tokens.Fixed In) (32 ∷ 40 ∷ rest) (tokens.Fixed Open ∷ more) (fixes.fixed In) refl refl refl (omega arith)
-        (spaced_open.reads true rest more again));
+    reads = λ before rest more again.
+        has_blank change before (73 ∷ 78 ∷ 32 ∷ 40 ∷ rest) (tokens.Fixed In ∷ tokens.Fixed Open ∷ more)
+        (has_token change (apart_from before.operand) 73 (78 ∷ 32 ∷ 40 ∷ rest) (tokens.Fixed In) (tokens.Fixed In) false (32 ∷ 40 ∷ rest) (tokens.Fixed Open ∷ more) (fixes.fixed In) refl refl refl refl (omega arith)
+        (spaced_open.reads (behind_token 73 false) rest more again));
     stops = λ rest. refl;
     utf8 = plain_utf8 (codes " IN (") refl;
   }
 
   -- a keyword and a blank behind it
-  pub leading : (c : ℕ) (cs : List ℕ) (f : Fixed) → ((rest : List ℕ) → lexeme_at (c ∷ (cs ++ (32 ∷ rest))) ≡ (Some (tokens.Fixed f), 32 ∷ rest)) → is_plain (c ∷ (cs ++ (32 ∷ []))) ≡ true → (Prefix change) (c ∷ (cs ++ (32 ∷ []))) (tokens.Fixed f ∷ [])
-  leading c cs f e u = record {
+  pub leading : {operand : Bool} (c : ℕ) (cs : List ℕ) (f : Fixed) → ((operand : Bool) (rest : List ℕ) → lexeme_at operand (c ∷ (cs ++ (32 ∷ rest))) ≡ (Some (tokens.Fixed f), 32 ∷ rest)) → ends_operand (tokens.Fixed f) ≡ false
+      → is_plain (c ∷ (cs ++ (32 ∷ []))) ≡ true → (PrefixAt change) operand false (c ∷ (cs ++ (32 ∷ []))) (tokens.Fixed f ∷ [])
+  leading {operand} c cs f e ends u = record {
     reads = λ rest more again.
-        subst (λ (l : List ℕ). Has change false (c ∷ l) (tokens.Fixed f ∷ more)) (sym (append_assoc cs (32 ∷ []) rest))
-        (has_token change false c (cs ++ (32 ∷ rest)) (tokens.Fixed f) (tokens.Fixed f) (32 ∷ rest) more (fixes.fixed f) refl (e rest) refl (length_later cs (32 ∷ rest)) (has_blank change (continues_name c) rest more again));
+        subst (λ (l : List ℕ). Has change (apart_from operand) (c ∷ l) (tokens.Fixed f ∷ more)) (sym (append_assoc cs (32 ∷ []) rest))
+        (has_token change (apart_from operand) c (cs ++ (32 ∷ rest)) (tokens.Fixed f) (tokens.Fixed f) false (32 ∷ rest) more (fixes.fixed f) refl (e operand rest) refl ends (length_later cs (32 ∷ rest))
+        (has_blank change (behind_token c false) rest more again));
     utf8 = plain_utf8 (c ∷ (cs ++ (32 ∷ []))) u;
   }
 
   pub not_prefix : (Prefix change) (codes "NOT ") (tokens.Fixed Not ∷ [])
-  not_prefix = leading 78 (79 ∷ 84 ∷ []) Not (λ rest. refl) refl
+  not_prefix = leading 78 (79 ∷ 84 ∷ []) Not (λ operand rest. refl) refl refl
 
   pub select_prefix : (Prefix change) (codes "SELECT ") (tokens.Fixed Select ∷ [])
-  select_prefix = leading 83 (codes "ELECT") Select (λ rest. refl) refl
+  select_prefix = leading 83 (codes "ELECT") Select (λ operand rest. refl) refl refl
 
-  pub into_text : (Separator change) (codes " INTO ") (tokens.Fixed Into ∷ [])
-  into_text = spaced 73 (codes "NTO") Into (λ rest. refl) refl
+  pub into_prefix : (operand : Bool) → (PrefixAt change) operand false (codes "INTO ") (tokens.Fixed Into ∷ [])
+  into_prefix operand = leading {operand = operand} 73 (codes "NTO") Into (λ _ rest. refl) refl refl
 
   pub insert_prefix : (Prefix change) (codes "INSERT INTO ") (tokens.Fixed Insert ∷ tokens.Fixed Into ∷ [])
-  insert_prefix = record {
-    reads = λ rest more again.
-        has_token change false 73 (codes "NSERT INTO " ++ rest) (tokens.Fixed Insert) (tokens.Fixed Insert) (codes " INTO " ++ rest) (tokens.Fixed Into ∷ more) (fixes.fixed Insert) refl refl refl (omega arith)
-        (into_text.reads true rest more again);
-    utf8 = plain_utf8 (codes "INSERT INTO ") refl;
-  }
+  insert_prefix =
+      (prefix_prefix change) (codes "INSERT ") (codes "INTO ") (tokens.Fixed Insert ∷ []) (tokens.Fixed Into ∷ [])
+      (leading {operand = false} 73 (codes "NSERT") Insert (λ operand rest. refl) refl refl) (into_prefix false)
+
+  pub delete_prefix : (Prefix change) (codes "DELETE FROM ") (tokens.Fixed Delete ∷ tokens.Fixed From ∷ [])
+  delete_prefix =
+      (prefix_prefix change) (codes "DELETE ") (codes "FROM ") (tokens.Fixed Delete ∷ []) (tokens.Fixed From ∷ [])
+      (leading {operand = false} 68 (codes "ELETE") Delete (λ operand rest. refl) refl refl) (leading {operand = false} 70 (codes "ROM") From (λ operand rest. refl) refl refl)
+
+  pub update_prefix : (Prefix change) (codes "UPDATE ") (tokens.Fixed Update ∷ [])
+  update_prefix = leading 85 (codes "PDATE") Update (λ operand rest. refl) refl refl
+
+  pub minus_prefix : (Prefix change) (codes "- ") (tokens.Fixed Minus ∷ [])
+  minus_prefix = leading 45 [] Minus (λ operand rest. refl) refl refl
 
   pub and_text : (Separator change) (codes " AND ") (tokens.Fixed And ∷ [])
-  and_text = spaced 65 (codes "ND") And (λ rest. refl) refl
+  and_text = spaced 65 (codes "ND") And (λ operand rest. refl) refl refl
 
   pub or_text : (Separator change) (codes " OR ") (tokens.Fixed Or ∷ [])
-  or_text = spaced 79 (codes "R") Or (λ rest. refl) refl
+  or_text = spaced 79 (codes "R") Or (λ operand rest. refl) refl refl
 
   pub between_text : (Separator change) (codes " BETWEEN ") (tokens.Fixed Between ∷ [])
-  between_text = spaced 66 (codes "ETWEEN") Between (λ rest. refl) refl
+  between_text = spaced 66 (codes "ETWEEN") Between (λ operand rest. refl) refl refl
 
   pub as_text : (Separator change) (codes " AS ") (tokens.Fixed As ∷ [])
-  as_text = spaced 65 (codes "S") As (λ rest. refl) refl
+  as_text = spaced 65 (codes "S") As (λ operand rest. refl) refl refl
 
   pub where_text : (Separator change) (codes " WHERE ") (tokens.Fixed Where ∷ [])
-  where_text = spaced 87 (codes "HERE") Where (λ rest. refl) refl
+  where_text = spaced 87 (codes "HERE") Where (λ operand rest. refl) refl refl
 
   pub values_text : (Separator change) (codes " VALUES ") (tokens.Fixed Values ∷ [])
-  values_text = spaced 86 (codes "ALUES") Values (λ rest. refl) refl
+  values_text = spaced 86 (codes "ALUES") Values (λ operand rest. refl) refl refl
 
   pub from_text : (Separator change) (codes " FROM ") (tokens.Fixed From ∷ [])
-  from_text = spaced 70 (codes "ROM") From (λ rest. refl) refl
+  from_text = spaced 70 (codes "ROM") From (λ operand rest. refl) refl refl
+
+  pub set_text : (Separator change) (codes " SET ") (tokens.Fixed Set ∷ [])
+  set_text = spaced 83 (codes "ET") Set (λ operand rest. refl) refl refl
+
+  pub equal_text : (Separator change) (codes " = ") (tokens.Fixed Equal ∷ [])
+  equal_text = spaced 61 [] Equal (λ operand rest. refl) refl refl
+
+  pub plus_text : (Separator change) (codes " + ") (tokens.Fixed Plus ∷ [])
+  plus_text = spaced 43 [] Plus (λ operand rest. refl) refl refl
+
+  pub minus_text : (Separator change) (codes " - ") (tokens.Fixed Minus ∷ [])
+  minus_text = spaced 45 [] Minus (λ operand rest. refl) refl refl
+
+  pub times_text : (Separator change) (codes " * ") (tokens.Fixed Star ∷ [])
+  times_text = spaced 42 [] Star (λ operand rest. refl) refl refl
 
   pub comparison_sign : (c : Comparison) → (f : Fixed) × (comparison_of (tokens.Fixed f) ≡ Some c) × (Separator change) (comparison_text c) (tokens.Fixed f ∷ [])
-  comparison_sign comparisons.Equal = (Equal, refl, spaced 61 [] Equal (λ rest. refl) refl)
-  comparison_sign comparisons.NotEqual = (NotEqual, refl, spaced 60 (62 ∷ []) NotEqual (λ rest. refl) refl)
-  comparison_sign comparisons.Less = (Less, refl, spaced 60 [] Less (λ rest. refl) refl)
-  comparison_sign comparisons.AtMost = (AtMost, refl, spaced 60 (61 ∷ []) AtMost (λ rest. refl) refl)
-  comparison_sign comparisons.Greater = (Greater, refl, spaced 62 [] Greater (λ rest. refl) refl)
-  comparison_sign comparisons.AtLeast = (AtLeast, refl, spaced 62 (61 ∷ []) AtLeast (λ rest. refl) refl)
+  comparison_sign comparisons.Equal = (Equal, refl, equal_text)
+  comparison_sign comparisons.NotEqual = (NotEqual, refl, spaced 60 (62 ∷ []) NotEqual (λ operand rest. refl) refl refl)
+  comparison_sign comparisons.Less = (Less, refl, spaced 60 [] Less (λ operand rest. refl) refl refl)
+  comparison_sign comparisons.AtMost = (AtMost, refl, spaced 60 (61 ∷ []) AtMost (λ operand rest. refl) refl refl)
+  comparison_sign comparisons.Greater = (Greater, refl, spaced 62 [] Greater (λ operand rest. refl) refl refl)
+  comparison_sign comparisons.AtLeast = (AtLeast, refl, spaced 62 (61 ∷ []) AtLeast (λ operand rest. refl) refl refl)
+
+  -- THE WORDS OF LOCKS
+
+  pub share_mode : (Suffix change) (codes " LOCK IN SHARE MODE") (tokens.Fixed Lock ∷ tokens.Fixed In ∷ tokens.Fixed Share ∷ tokens.Fixed Mode ∷ [])
+  share_mode =
+      (separator_atom change) (codes " LOCK ") (codes "IN SHARE MODE") (tokens.Fixed Lock ∷ []) (tokens.Fixed In ∷ tokens.Fixed Share ∷ tokens.Fixed Mode ∷ [])
+      (spaced 76 (codes "OCK") Lock (λ operand rest. refl) refl refl)
+      ((prefix_atom change) (codes "IN ") (codes "SHARE MODE") (tokens.Fixed In ∷ []) (tokens.Fixed Share ∷ tokens.Fixed Mode ∷ [])
+      (leading {operand = false} 73 (codes "N") In (λ operand rest. refl) refl refl)
+      ((prefix_atom change) (codes "SHARE ") (codes "MODE") (tokens.Fixed Share ∷ []) (tokens.Fixed Mode ∷ [])
+      (leading {operand = false} 83 (codes "HARE") Share (λ operand rest. refl) refl refl)
+      (word_atom false 77 (codes "ODE") Mode (λ rest stops. ap seen (keyword_at (codes "MODE") rest Mode refl refl stops)) refl)))
+
+  pub for_update : (Suffix change) (codes " FOR UPDATE") (tokens.Fixed For ∷ tokens.Fixed Update ∷ [])
+  for_update =
+      (separator_atom change) (codes " FOR ") (codes "UPDATE") (tokens.Fixed For ∷ []) (tokens.Fixed Update ∷ [])
+      (spaced 70 (codes "OR") For (λ operand rest. refl) refl refl)
+      (word_atom false 85 (codes "PDATE") Update (λ rest stops. ap seen (keyword_at (codes "UPDATE") rest Update refl refl stops)) refl)

@@ -4,6 +4,8 @@ pub mod Fields
 pub mod Choices
 pub mod Nested
 pub mod ReadRules
+pub mod ExprRules
+pub mod StatementRules
 pub mod Wholes
 pub mod Statements
 pub mod LinkRules
@@ -18,6 +20,7 @@ pub mod Told
 pub mod Respelled
 pub mod RespelledTests
 pub mod RespelledConds
+pub mod RespelledExprs
 pub mod RespelledStatements
 pub mod Printed
 pub mod LinkWords

@@ -10,7 +10,6 @@ use Rattle.sql_values.specs.Expressions.{is_big_int, big_int}
 use Rattle.sql_values.specs.declared.value.Value.{Value}
 use Rattle.sql_values.specs.declared.value.Value.TheVariants as values
 use Rattle.sql_values.specs.declared.places.Xid.{Xid}
-use Rattle.sql_values.specs.declared.places.LockMode.TheVariants as locks
 use Rattle.sql_values.specs.declared.tree.ColumnName.{ColumnName}
 use Rattle.sql_text.specs.declared.link.LinkRequest.{LinkRequest}
 use Rattle.sql_text.specs.declared.link.LinkRequest.TheVariants as requests
@@ -19,26 +18,29 @@ use Rattle.sql_text.specs.declared.link.ScanItems.TheVariants as scanned
 use Rattle.sql_text.specs.declared.link.AggregateCall.{AggregateCall}
 use Rattle.sql_text.specs.declared.link.AggregateCall.TheVariants as calls
 use Rattle.sql_text.specs.declared.token.Fixed.{Fixed}
-use Rattle.sql_text.specs.declared.token.Fixed.TheVariants.{And, Between, From, In, Into, Select, Values, Where, Open, Close, Comma, Star, Semicolon, By, Commit, Count, Delete, End, For, Limit, Lock, Max, Min, Mode, Order, Prepare, Recover, Replace, Rollback, Share, Start, Sum, Update, Xa}
+use Rattle.sql_text.specs.declared.token.Fixed.TheVariants.{And, Between, Delete, From, In, Into, Select, Values, Where, Open, Close, Comma, Star, Semicolon, By, Commit, Count, End, Limit, Max, Min, Order, Prepare, Recover, Replace, Rollback, Start, Sum, Xa}
 use Rattle.sql_text.specs.declared.token.Token.{Token}
 use Rattle.sql_text.specs.declared.token.Token.TheVariants as tokens
 use Rattle.sql_text.specs.Rules.{Rule, is, one, ◌⊳◌, ◌▷◌, ◌∣◌, series, at_most_further, parenthesized, optional}
 use Rattle.sql_text.specs.Tokens.{Placed, as_link, worded, link_word, tokens_of, link_tokens_of, placed_tokens}
-use Rattle.sql_text.specs.Grammar.{name, column}
-use Rattle.sql_text.specs.LinkGrammar.{key_of, as_number, value_of, count_of, part_of, xid, branch, of_column, aggregate, scan_items, order, limit, lock, scan, row, put, keys, delete, request, most_link_openings, IsRequest}
-use Rattle.sql_text.specs.Printing.{quoted, name_text, joined_text, column_text, where_text}
-use Rattle.sql_text.specs.LinkPrinting.{xid_text, value_text, row_text, call_text, scan_items_text, order_text, limit_text, lock_text, link_printed}
-use Rattle.sql_text.proofs.Written.{Atom, Suffix, Prefix, prefix_of, closing_of, nothing_behind, atom_suffix, prefix_atom, separator_atom, suffix_suffix, separator_alone, atom_tokens}
+use Rattle.sql_text.specs.Grammar.{name, column, lock}
+use Rattle.sql_text.specs.LinkGrammar.{key_of, as_number, value_of, count_of, part_of, xid, branch, of_column, aggregate, scan_items, order, limit, scan, row, put, keys, delete, request, most_link_openings, IsRequest}
+use Rattle.sql_text.specs.Printing.{quoted, name_text, joined_text, column_text, where_text, lock_text}
+use Rattle.sql_text.specs.LinkPrinting.{xid_text, value_text, row_text, call_text, scan_items_text, order_text, limit_text, link_printed}
+use Rattle.sql_text.proofs.Written.{AtomAt, Atom, Suffix, PrefixAt, Prefix, prefix_of, closing_of, nothing_behind, atom_suffix, prefix_atom, separator_atom, suffix_suffix, separator_alone, atom_tokens}
 use Rattle.sql_text.proofs.Lexemes as lexemes
 use Rattle.sql_text.proofs.Sound.{Sound, Sounds, escapes_utf8, tokens_sound}
 use Rattle.sql_text.proofs.Told.{Told, Respells, first_sound, second_sound, mapped, unmapped, retold}
-use Rattle.sql_text.proofs.Respelled.{name_told, column_told, series_told, few_told, enclosed_told}
-use Rattle.sql_text.proofs.RespelledStatements.{where_told}
+use Rattle.sql_text.proofs.Respelled.{name_told, name_told_at, column_told, series_told, few_told, enclosed_told}
+use Rattle.sql_text.proofs.RespelledStatements.{where_told, lock_told}
 use Rattle.sql_text.proofs.LinkWords as words
 use Rattle.sql_text.proofs.LinkWords.{link_fixes}
 
+abbrev TextsAt : Bool → List ℕ → List Token → Type 0
+TextsAt operand bytes ts = AtomAt as_link operand bytes ts
+
 abbrev Texts : List ℕ → List Token → Type 0
-Texts bytes ts = Atom as_link bytes ts
+Texts bytes ts = TextsAt false bytes ts
 
 abbrev Ends : List ℕ → List Token → Type 0
 Ends bytes ts = Suffix as_link bytes ts
@@ -62,7 +64,7 @@ record Number (z : ℤ) : Type 0 where
 number_of : (z : ℤ) → is_big_int z ≡ true → Number z
 number_of (pos n) h =
     let small : n < 2 ^ 63 = grind (arith, nat_tests) in
-    record { token = tokens.Digits (pos n); atom = lexemes.digits_atom as_link link_fixes n (omega arith); key = rw h refl; value = rw h refl }
+    record { token = tokens.Digits (pos n); atom = lexemes.digits_atom as_link link_fixes false n (omega arith); key = rw h refl; value = rw h refl }
 number_of (negsuc n) h =
     let small : n < 2 ^ 63 = grind (arith, nat_tests) in
     record { token = tokens.Signed (negsuc n); atom = lexemes.minus_atom as_link link_fixes n (omega arith); key = rw h refl; value = rw h refl }
@@ -94,7 +96,7 @@ value_case (tokens.Digits z) v h sound = number_value z v h
 value_case (tokens.Signed z) v h sound = number_value z v h
 value_case (tokens.Text t) v h sound =
     let same : values.Text t ≡ v = cc in
-    subst (λ (w : Value). Told Texts (one value_of) w (value_text w)) same (tokens.Text t ∷ [], (tokens.Text t, refl, refl), lexemes.text_atom as_link link_fixes t sound (escapes_utf8 t sound))
+    subst (λ (w : Value). Told Texts (one value_of) w (value_text w)) same (tokens.Text t ∷ [], (tokens.Text t, refl, refl), lexemes.text_atom as_link link_fixes false t sound (escapes_utf8 t sound))
 value_case (tokens.Fixed f) v h sound = absurd cc
 value_case (tokens.Bare n) v h sound = absurd cc
 value_case (tokens.Quoted n) v h sound = absurd cc
@@ -115,28 +117,29 @@ part_case t g false e h = absurd cc
 part_of_text : (t : List ℕ) → nat_le (length t) 64 ≡ true → part_of (tokens.Text t) ≡ Some t
 part_of_text t h = rw h refl
 
-part_by : (t : Token) (g : List ℕ) → part_of t ≡ Some g → Sound t → Told Texts (one part_of) g (quoted g)
-part_by (tokens.Text t) g h sound =
+part_by : (operand : Bool) (t : Token) (g : List ℕ) → part_of t ≡ Some g → Sound t → Told (TextsAt operand) (one part_of) g (quoted g)
+part_by operand (tokens.Text t) g h sound =
     let p = part_case t g (nat_le (length t) 64) refl h in
-    subst (λ (l : List ℕ). Told Texts (one part_of) l (quoted l)) p.0
-    (tokens.Text t ∷ [], (tokens.Text t, refl, part_of_text t p.1), lexemes.text_atom as_link link_fixes t sound (escapes_utf8 t sound))
-part_by (tokens.Fixed f) g h sound = absurd cc
-part_by (tokens.Bare n) g h sound = absurd cc
-part_by (tokens.Quoted n) g h sound = absurd cc
-part_by (tokens.Digits n) g h sound = absurd cc
-part_by (tokens.Signed n) g h sound = absurd cc
-part_by tokens.Bad g h sound = absurd cc
+    subst (λ (l : List ℕ). Told (TextsAt operand) (one part_of) l (quoted l)) p.0
+    (tokens.Text t ∷ [], (tokens.Text t, refl, part_of_text t p.1), lexemes.text_atom as_link link_fixes operand t sound (escapes_utf8 t sound))
+part_by operand (tokens.Fixed f) g h sound = absurd cc
+part_by operand (tokens.Bare n) g h sound = absurd cc
+part_by operand (tokens.Quoted n) g h sound = absurd cc
+part_by operand (tokens.Digits n) g h sound = absurd cc
+part_by operand (tokens.Signed n) g h sound = absurd cc
+part_by operand tokens.Bad g h sound = absurd cc
 
-part_told : Respells Texts (one part_of) quoted
-part_told g ts (t, e, h) sound = let s : Sounds (t ∷ []) = subst Sounds e sound in part_by t g h s.0
+part_told : (operand : Bool) → Respells (TextsAt operand) (one part_of) quoted
+part_told operand g ts (t, e, h) sound = let s : Sounds (t ∷ []) = subst Sounds e sound in part_by operand t g h s.0
 
 -- the format behind its comma
 format_suffix : Ends (codes ",1") (tokens.Fixed Comma ∷ tokens.Digits (pos 1) ∷ [])
 format_suffix =
     subst (λ (l : List ℕ). Ends (codes "," ++ l) (tokens.Fixed Comma ∷ tokens.Digits (pos 1) ∷ [])) (decimal_digit 1 (omega arith))
-    (separator_atom as_link (codes ",") (signed_decimal (pos 1)) (tokens.Fixed Comma ∷ []) (tokens.Digits (pos 1) ∷ []) (lexemes.comma_symbol as_link link_fixes) (lexemes.digits_atom as_link link_fixes 1 (omega arith)))
+    (separator_atom as_link (codes ",") (signed_decimal (pos 1)) (tokens.Fixed Comma ∷ []) (tokens.Digits (pos 1) ∷ []) (lexemes.comma_symbol as_link link_fixes) (lexemes.digits_atom as_link link_fixes false 1 (omega arith)))
 
-xid_told : Respells Texts xid xid_text
+-- it stands behind a word of link text
+xid_told : Respells (TextsAt true) xid xid_text
 xid_told x ts (g, s) sound =
     let first = s.second in
     let inner : Sounds first.0 = (let k : Sounds (tokens.Fixed Comma ∷ first.0) = subst Sounds first.1 (second_sound s sound) in k.1) in
@@ -144,11 +147,11 @@ xid_told x ts (g, s) sound =
     let behind = q.1.second in
     let f = behind.2 in
     let same : x ≡ record { gtrid = g; bqual = q.0 } = f.1.second.0 in
-    let a = part_told g s.front s.first (first_sound s sound) in
-    let b = part_told q.0 q.1.front q.1.first (first_sound q.1 inner) in
+    let a = part_told true g s.front s.first (first_sound s sound) in
+    let b = part_told false q.0 q.1.front q.1.first (first_sound q.1 inner) in
     let format : List Token = tokens.Fixed Comma ∷ tokens.Digits (pos 1) ∷ [] in
     let value : Xid = record { gtrid = g; bqual = q.0 } in
-    retold Texts xid xid_text x value same (
+    retold (TextsAt true) xid xid_text x value same (
       a.0 ++ (tokens.Fixed Comma ∷ (b.0 ++ format)),
       (
         g,
@@ -179,7 +182,7 @@ xid_told x ts (g, s) sound =
     )
 
 -- a branch's name behind two words
-named_told : (f : Fixed) (of : Xid → LinkRequest) (word : List ℕ) → Prefix as_link word (tokens.Fixed Xa ∷ tokens.Fixed f ∷ []) → (r : LinkRequest) (ts : List Token) → (f ⊳ (xid ▷ λ x. is (of x))) r ts → Sounds ts
+named_told : (f : Fixed) (of : Xid → LinkRequest) (word : List ℕ) → PrefixAt as_link false true word (tokens.Fixed Xa ∷ tokens.Fixed f ∷ []) → (r : LinkRequest) (ts : List Token) → (f ⊳ (xid ▷ λ x. is (of x))) r ts → Sounds ts
     → (x : Xid) × (r ≡ of x) × Told Texts (Xa ⊳ (f ⊳ (xid ▷ λ y. is (of y)))) (of x) (word ++ xid_text x)
 named_told f of word p r ts (rest, e, h) sound =
     let inner : Sounds rest = (let k : Sounds (tokens.Fixed f ∷ rest) = subst Sounds e sound in k.1) in
@@ -296,7 +299,7 @@ order_told scanned.All o ts (rest, e, (more, f, h)) sound =
     let outer : Sounds rest = (let k : Sounds (tokens.Fixed Order ∷ rest) = subst Sounds e sound in k.1) in
     let inner : Sounds more = (let k : Sounds (tokens.Fixed By ∷ more) = subst Sounds f outer in k.1) in
     let u = unmapped name Some o more h in
-    let a = name_told as_link link_fixes u.0 more u.2 inner in
+    let a = name_told_at as_link link_fixes true u.0 more u.2 inner in
     retold Ends (order scanned.All) order_text o (Some u.0) u.1 (
       tokens.Fixed Order ∷ tokens.Fixed By ∷ a.0,
       (tokens.Fixed By ∷ a.0, refl, (a.0, refl, mapped name (λ k. is (Some k)) u.0 (Some u.0) a.0 a.1 (refl, refl))),
@@ -308,13 +311,14 @@ count_case : (k n : ℕ) (b : Bool) → nat_lt k (2 ^ 64) ≡ b → cond b (Some
 count_case k n true e h = (cc, e)
 count_case k n false e h = absurd cc
 
-counts : (n : ℕ) → nat_lt n (2 ^ 64) ≡ true → Told Texts (one count_of) n (signed_decimal (pos n))
+counts : (n : ℕ) → nat_lt n (2 ^ 64) ≡ true → Told (TextsAt true) (one count_of) n (signed_decimal (pos n))
 counts n h =
     let small : n < 2 ^ 64 = grind (arith, nat_tests) in
-    (tokens.Digits (pos n) ∷ [], (tokens.Digits (pos n), refl, rw h refl), lexemes.digits_atom as_link link_fixes n (omega arith))
+    (tokens.Digits (pos n) ∷ [], (tokens.Digits (pos n), refl, rw h refl), lexemes.digits_atom as_link link_fixes true n (omega arith))
 
-count_by : (t : Token) (n : ℕ) → count_of t ≡ Some n → Told Texts (one count_of) n (signed_decimal (pos n))
-count_by (tokens.Digits (pos k)) n h = let c = count_case k n (nat_lt k (2 ^ 64)) refl h in subst (λ m. Told Texts (one count_of) m (signed_decimal (pos m))) c.0 (counts k c.1)
+-- it stands behind LIMIT
+count_by : (t : Token) (n : ℕ) → count_of t ≡ Some n → Told (TextsAt true) (one count_of) n (signed_decimal (pos n))
+count_by (tokens.Digits (pos k)) n h = let c = count_case k n (nat_lt k (2 ^ 64)) refl h in subst (λ m. Told (TextsAt true) (one count_of) m (signed_decimal (pos m))) c.0 (counts k c.1)
 count_by (tokens.Digits (negsuc k)) n h = absurd cc
 count_by (tokens.Text t) n h = absurd cc
 count_by (tokens.Fixed f) n h = absurd cc
@@ -333,14 +337,6 @@ limit_told l ts (inl (rest, e, h)) sound =
       separator_atom as_link (codes " LIMIT ") (signed_decimal (pos u.0)) (tokens.Fixed Limit ∷ []) a.0 words.limit_word a.2,
     )
 limit_told l ts (inr h) sound = retold Ends limit limit_text l None h.0 ([], inr (refl, refl), nothing_behind as_link)
-
-lock_told : Respells Ends lock lock_text
-lock_told m ts (inl h) sound =
-    retold Ends lock lock_text m locks.Shared h.2.2.2.2.0
-    (tokens.Fixed Lock ∷ tokens.Fixed In ∷ tokens.Fixed Share ∷ tokens.Fixed Mode ∷ [], inl (tokens.Fixed In ∷ tokens.Fixed Share ∷ tokens.Fixed Mode ∷ [], refl, (tokens.Fixed Share ∷ tokens.Fixed Mode ∷ [], refl, (tokens.Fixed Mode ∷ [], refl, ([], refl, (refl, refl))))), words.share_mode)
-lock_told m ts (inr h) sound =
-    retold Ends lock lock_text m locks.Exclusive h.2.2.0
-    (tokens.Fixed For ∷ tokens.Fixed Update ∷ [], inr (tokens.Fixed Update ∷ [], refl, ([], refl, (refl, refl))), words.for_update)
 
 scan_told : (depth : ℕ) → Respells Texts (scan depth) link_printed
 unfolding link_printed
@@ -362,7 +358,7 @@ scan_told depth r ts (rest, e, (i, s)) sound =
     let c = where_told as_link link_fixes depth w.0 w.1.front w.1.first (first_sound w.1 after_table) in
     let d = order_told i o.0 o.1.front o.1.first (first_sound o.1 after_where) in
     let g = limit_told n.0 n.1.front n.1.first (first_sound n.1 after_order) in
-    let m = lock_told u.0 n.1.rest u.2 (second_sound n.1 after_order) in
+    let m = lock_told as_link link_fixes u.0 n.1.rest u.2 (second_sound n.1 after_order) in
     let last : List ℕ = limit_text n.0 ++ lock_text u.0 in
     let behind : List ℕ = where_text w.0 ++ (order_text o.0 ++ last) in
     retold Texts (scan depth) link_printed r value u.1 (
@@ -569,7 +565,7 @@ delete_told depth r ts (rest, e, (more, f, (t, s))) sound =
         ),
       ),
       subst (λ (l : List ℕ). Texts l (tokens.Fixed Delete ∷ tokens.Fixed From ∷ (a.0 ++ (tokens.Fixed Where ∷ (b.0 ++ c.0))))) (sym g.text)
-          (prefix_atom as_link (codes "DELETE FROM ") (name_text t ++ (codes " WHERE " ++ (name_text k.0 ++ which_text r))) (tokens.Fixed Delete ∷ tokens.Fixed From ∷ []) (a.0 ++ (tokens.Fixed Where ∷ (b.0 ++ c.0))) words.delete_from
+          (prefix_atom as_link (codes "DELETE FROM ") (name_text t ++ (codes " WHERE " ++ (name_text k.0 ++ which_text r))) (tokens.Fixed Delete ∷ tokens.Fixed From ∷ []) (a.0 ++ (tokens.Fixed Where ∷ (b.0 ++ c.0))) (lexemes.delete_prefix as_link link_fixes)
           (atom_suffix as_link (name_text t) (codes " WHERE " ++ (name_text k.0 ++ which_text r)) a.0 (tokens.Fixed Where ∷ (b.0 ++ c.0)) a.2
           (separator_atom as_link (codes " WHERE ") (name_text k.0 ++ which_text r) (tokens.Fixed Where ∷ []) (b.0 ++ c.0) (lexemes.where_text as_link link_fixes)
           (atom_suffix as_link (name_text k.0) (which_text r) b.0 c.0 b.2 c.2)))),

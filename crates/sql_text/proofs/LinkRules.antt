@@ -3,7 +3,6 @@ use Rattle.std.proofs.Common.{◌≡◌, ℕ, ℤ, pos, Bool, true, false, cond,
 use Rattle.sql_values.specs.declared.value.Value.{Value}
 use Rattle.sql_values.specs.declared.value.Value.TheVariants as values
 use Rattle.sql_values.specs.declared.places.Xid.{Xid}
-use Rattle.sql_values.specs.declared.places.LockMode.TheVariants as locks
 use Rattle.sql_values.specs.declared.tree.ColumnName.{ColumnName}
 use Rattle.sql_text.specs.declared.link.LinkRequest.{LinkRequest}
 use Rattle.sql_text.specs.declared.link.LinkRequest.TheVariants as requests
@@ -11,19 +10,19 @@ use Rattle.sql_text.specs.declared.link.ScanItems.{ScanItems}
 use Rattle.sql_text.specs.declared.link.ScanItems.TheVariants as scanned
 use Rattle.sql_text.specs.declared.link.AggregateCall.{AggregateCall}
 use Rattle.sql_text.specs.declared.link.AggregateCall.TheVariants as calls
-use Rattle.sql_text.specs.declared.token.Fixed.TheVariants.{And, Between, From, In, Into, Select, Values, Where, Comma, Star, Semicolon, By, Commit, Count, Delete, End, For, Limit, Lock, Max, Min, Mode, Order, Prepare, Recover, Replace, Rollback, Share, Start, Sum, Update, Xa}
+use Rattle.sql_text.specs.declared.token.Fixed.TheVariants.{And, Between, Delete, From, In, Into, Select, Values, Where, Comma, Star, Semicolon, By, Commit, Count, End, Limit, Max, Min, Order, Prepare, Recover, Replace, Rollback, Start, Sum, Xa}
 use Rattle.sql_text.specs.declared.token.Token.{Token}
 use Rattle.sql_text.specs.declared.token.Token.TheVariants as tokens
 use Rattle.sql_text.specs.declared.fault.Stop.{Stop}
 use Rattle.sql_text.specs.Rules.{Rule, is, one, ◌⊳◌, ◌▷◌, ◌∣◌, series, at_most_further, parenthesized}
 use Rattle.sql_text.specs.Grammar.{column}
-use Rattle.sql_text.specs.LinkGrammar.{key_of, value_of, count_of, part_of, format_of, xid, branch, of_column, aggregate, scan_items, order, limit, lock, scan, row, put, keys, delete, request}
+use Rattle.sql_text.specs.LinkGrammar.{key_of, value_of, count_of, part_of, format_of, xid, branch, of_column, aggregate, scan_items, order, limit, scan, row, put, keys, delete, request}
 use Rattle.sql_text.specs.Reading.{◌>>=◌, begins, expect, optional_at, one_at, column_at, series_at, further_at, with_front}
-use Rattle.sql_text.specs.LinkReading.{xid_at, named_at, behind_xa_at, branch_at, star_at, count_at, of_column_at, aggregate_at, scan_items_at, order_at, limit_at, share_at, update_at, lock_at, scan_at, row_at, put_at, keys_at, del_at, clear_at, which_at, delete_at, request_body_at}
+use Rattle.sql_text.specs.LinkReading.{xid_at, named_at, behind_xa_at, branch_at, star_at, count_at, of_column_at, aggregate_at, scan_items_at, order_at, limit_at, scan_at, row_at, put_at, keys_at, del_at, clear_at, which_at, delete_at, request_body_at}
 use Rattle.sql_text.proofs.Fields.{Reads, Rules, kind_of, member, IsField, is_field, one_field}
 use Rattle.sql_text.proofs.Choices.{begins_tells, same_reader, either_field, fixed_or, optional_field}
 use Rattle.sql_text.proofs.Nested.{parenthesized_field, few_field, series_field}
-use Rattle.sql_text.proofs.ReadRules.{both, behind_fixed, known_as, name_field, column_field, where_field}
+use Rattle.sql_text.proofs.ReadRules.{both, behind_fixed, known_as, name_field, column_field, where_field, lock_field}
 
 -- ---- single tokens
 
@@ -186,19 +185,6 @@ unfolding limit_at
 limit_field depth = known_as (31 ∷ []) (31 ∷ []) refl refl
     (fixed_or Limit (λ _. one count_of ▷ λ n. is (Some n)) (λ ts. one_at count_of ts >>= λ n. Ok (Some n.0, n.1)) (λ _. is None) (λ ts. Ok (None, ts)) depth false true (101 ∷ []) [] [] []
     (known_as (101 ∷ []) [] refl refl (both (count_field depth) (λ n. is_field (Some n) depth) refl)) (is_field None depth) refl)
-
-share_field : (depth : ℕ) → IsField (λ _. In ⊳ (Share ⊳ (Mode ⊳ is locks.Shared))) depth share_at false (4 ∷ []) []
-unfolding share_at
-share_field depth = behind_fixed In (behind_fixed Share (behind_fixed Mode (is_field locks.Shared depth)))
-
-update_field : (depth : ℕ) → IsField (λ _. For ⊳ (Update ⊳ is locks.Exclusive)) depth update_at false (30 ∷ []) []
-unfolding update_at
-update_field depth = behind_fixed For (behind_fixed Update (is_field locks.Exclusive depth))
-
-lock_field : (depth : ℕ) → IsField (λ _. lock) depth lock_at false (32 ∷ 30 ∷ []) []
-unfolding lock_at
-lock_field depth =
-    fixed_or Lock (λ _. In ⊳ (Share ⊳ (Mode ⊳ is locks.Shared))) share_at (λ _. For ⊳ (Update ⊳ is locks.Exclusive)) update_at depth false false (4 ∷ []) [] (30 ∷ []) [] (share_field depth) (update_field depth) refl
 
 scan_field : (depth : ℕ) → IsField scan depth (scan_at depth) false (10 ∷ []) []
 unfolding scan_at

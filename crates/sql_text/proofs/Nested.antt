@@ -7,11 +7,11 @@ use Rattle.sql_text.specs.declared.token.Fixed.TheVariants.{Open, Close}
 use Rattle.sql_text.specs.declared.token.Token.{Token}
 use Rattle.sql_text.specs.declared.token.Token.TheVariants as tokens
 use Rattle.sql_text.specs.declared.fault.Stop.{Stop}
-use Rattle.sql_text.specs.Rules.{Rule, is, ◌⊳◌, ◌▷◌, opens, further, series, at_most_further, parenthesized}
+use Rattle.sql_text.specs.Rules.{Rule, is, ◌⊳◌, ◌▷◌, ◌∣◌, opens, further, many, series, at_most_further, parenthesized}
 use Rattle.sql_text.specs.Places.{is_opening}
-use Rattle.sql_text.specs.Reading.{◌>>=◌, number_of, is_fixed, begins, expect, open_at, further_at, series_at, parenthesized_at, with_front, too_deep, syntax}
+use Rattle.sql_text.specs.Reading.{◌>>=◌, number_of, is_fixed, begins, expect, open_at, many_at, further_at, series_at, parenthesized_at, with_front, too_deep, syntax}
 use Rattle.sql_text.proofs.Fields.{Reads, Rules, kind_of, member, apart, self_member, self_equal, or_false, Clear, clear_left, clear_right, both_false, Begun, Stuck, stop_at, Near, Reach, Some_text, IsField, is_fixed_is, is_field, fixed_field, then_field}
-use Rattle.sql_text.proofs.Choices.{same_reader, fixed_or}
+use Rattle.sql_text.proofs.Choices.{Tells, same_reader, either_field, fixed_or}
 
 -- ---- openings
 
@@ -331,3 +331,159 @@ series_field {X} f A a depth first_a further_a field away =
     (λ x. then_field (λ n. further f (A n)) (λ ts. further_at (length ts) f a ts) (λ xs _. is (x ∷ xs)) (λ xs ts. Ok (x ∷ xs, ts)) depth true true (number_of f ∷ []) (number_of f ∷ further_a) [] []
     (further_field f A a depth first_a further_a field away) (λ xs. is_field (x ∷ xs) depth) refl)
     away
+
+-- ---- any number of parts that begin with two kinds of tokens
+
+-- at most so many
+abbrev at_most : {X : Type 0} → ℕ → Rule X → Rule (List X)
+at_most {X} zero A = is []
+at_most {X} (suc count) A = (A ▷ λ x. at_most count A ▷ λ xs. is (x ∷ xs)) ∣ is []
+
+loose_two : {X : Type 0} (A : Rules X) (depth : ℕ) (read : Reads X) (p q : ℕ) (kinds : List ℕ) → IsField A depth read true [] [] → IsField A depth read true (p ∷ q ∷ []) (p ∷ q ∷ kinds)
+loose_two A depth read p q kinds field = record {
+  took = field.took;
+  stuck = field.stuck;
+  some = field.some;
+  again = λ m x front rest k clear. field.again m x front rest k (no_kinds rest);
+  begins = λ m x c cs h. absurd (let e : false ≡ true = field.begins m x c cs h in cc);
+  solid = field.solid;
+}
+
+two_clear : (p q : ℕ) (xa : List ℕ) (ts : List Token) → Clear (p ∷ q ∷ xa) ts → Clear ((((p ∷ q ∷ xa) ++ xa) ++ []) ++ (p ∷ q ∷ [])) ts
+two_clear p q xa ts h =
+    let f : Clear (p ∷ q ∷ []) ts = clear_left (p ∷ q ∷ []) xa ts h in
+    let x : Clear xa ts = clear_right (p ∷ q ∷ []) xa ts h in
+    clear_both (((p ∷ q ∷ xa) ++ xa) ++ []) (p ∷ q ∷ []) ts (clear_both ((p ∷ q ∷ xa) ++ xa) [] ts (clear_both (p ∷ q ∷ xa) xa ts h x) (no_kinds ts)) f
+
+at_most_field : {X : Type 0} (count : ℕ) (A : Rules X) (a : Reads X) (depth : ℕ) (test : List Token → Bool) (p q : ℕ) (further_a : List ℕ) → IsField A depth a false (p ∷ q ∷ []) further_a → Tells test (p ∷ q ∷ [])
+    → apart (p ∷ q ∷ []) further_a ≡ true → IsField (λ n. at_most count (A n)) depth (many_at count test a) true (p ∷ q ∷ []) (p ∷ q ∷ further_a)
+at_most_field {X} zero A a depth test p q further_a field tells away = loose_two (λ _. is []) depth (λ ts. Ok ([], ts)) p q further_a (is_field [] depth)
+at_most_field {X} (suc count) A a depth test p q further_a field tells away =
+    wider (λ n. at_most (suc count) (A n)) depth (many_at (suc count) test a) true (p ∷ q ∷ []) ((((p ∷ q ∷ further_a) ++ further_a) ++ []) ++ (p ∷ q ∷ [])) (p ∷ q ∷ further_a)
+    (two_clear p q further_a)
+    (either_field (λ n. A n ▷ λ x. at_most count (A n) ▷ λ xs. is (x ∷ xs)) (λ ts. a ts >>= λ x. with_front (x.0 ∷ []) (many_at count test a x.1)) (λ _. is []) (λ ts. Ok ([], ts)) test depth true
+    (p ∷ q ∷ []) ((p ∷ q ∷ further_a) ++ further_a) [] []
+    (then_field A a (λ (x : X) n. at_most count (A n) ▷ λ xs. is (x ∷ xs)) (λ x ts. with_front (x ∷ []) (many_at count test a ts)) depth false true (p ∷ q ∷ []) further_a (p ∷ q ∷ []) (p ∷ q ∷ further_a) field
+    (λ x. then_field (λ n. at_most count (A n)) (many_at count test a) (λ xs _. is (x ∷ xs)) (λ xs ts. Ok (x ∷ xs, ts)) depth true true (p ∷ q ∷ []) (p ∷ q ∷ further_a) [] []
+    (at_most_field count A a depth test p q further_a field tells away) (λ xs. is_field (x ∷ xs) depth) refl)
+    away)
+    (is_field [] depth) tells refl)
+
+most_to : {X : Type 0} (count : ℕ) (A : Rule X) (xs : List X) (ts : List Token) → at_most count A xs ts → many A xs ts
+most_to zero A xs ts h = subst (λ l. many A l ts) (sym h.0) h.1
+most_to {X} (suc count) A xs ts h =
+    elim h [
+      | inl k ↦
+          let q = k.1 in
+          let others = q.second in
+          let r = others.1 in
+          let behind_last : q.rest ≡ r.front = r.whole ∙ ap (λ (l : List Token). r.front ++ l) r.second.1 ∙ append-nil r.front in
+          subst (λ l. many A l ts) (sym r.second.0)
+          (record { front = q.front; rest = r.front; whole = q.whole ∙ ap (λ (l : List Token). q.front ++ l) behind_last; first = q.first; second = most_to count A others.0 r.front r.first })
+      | inr k ↦ subst (λ l. many A l ts) (sym k.0) k.1
+    ]
+
+most_from : {X : Type 0} (count : ℕ) (A : Rule X) (xs : List X) (ts : List Token) → length xs ≤ count → many A xs ts → at_most count A xs ts
+most_from zero A [] ts l h = (refl, h)
+most_from (suc count) A [] ts l h = inr (refl, h)
+most_from zero A (x ∷ xs) ts l h = absurd (omega arith)
+most_from {X} (suc count) A (x ∷ xs) ts l q =
+    inl (
+      x,
+      record {
+        front = q.front;
+        rest = q.rest;
+        whole = q.whole;
+        first = q.first;
+        second = (xs, record { front = q.rest; rest = []; whole = sym (append-nil q.rest); first = most_from count A xs q.rest (omega arith) q.second; second = (refl, refl) });
+      },
+    )
+
+-- reading a part takes a token away at least
+abbrev Shrinks : {X : Type 0} → Reads X → Type 0
+Shrinks {X} a = (ts : List Token) (x : X) (rest : List Token) → a ts ≡ Ok (x, rest) → length rest < length ts
+
+shorter : {X : Type 0} (A : Rule X) (x : X) (front ts rest : List Token) → ts ≡ front ++ rest → A x front → (A x [] → false ≡ true) → length rest < length ts
+shorter A x [] ts rest split spells solid = absurd (let e : false ≡ true = solid spells in cc)
+shorter A x (c ∷ front) ts rest split spells solid =
+    let whole = ap length split in
+    let total = length-append front rest in
+    omega (arith, whole, total)
+
+field_shrinks : {X : Type 0} (A : Rules X) (depth : ℕ) (a : Reads X) (first further : List ℕ) → IsField A depth a false first further → Shrinks a
+field_shrinks A depth a first further field ts x rest e =
+    let t = field.took ts x rest e in
+    shorter (A depth) x t.front ts rest t.split (t.spells depth (omega arith)) (field.solid depth x)
+
+same_part : {X : Type 0} (test : List Token → Bool) (a : Reads X) (n m : ℕ) → ((ts : List Token) → length ts ≤ n → length ts ≤ m → many_at n test a ts ≡ many_at m test a ts) → Shrinks a
+    → (ts : List Token) → length ts ≤ suc n → length ts ≤ suc m → (r : Result (X × List Token) Stop) → a ts ≡ r
+    → (r >>= λ x. with_front (x.0 ∷ []) (many_at n test a x.1)) ≡ (r >>= λ x. with_front (x.0 ∷ []) (many_at m test a x.1))
+same_part test a n m again short ts l k (Ok x) e = let s = short ts x.0 x.1 e in ap (with_front (x.0 ∷ [])) (again x.1 (omega arith) (omega arith))
+same_part test a n m again short ts l k (Err stop) e = refl
+
+same_many : {X : Type 0} (test : List Token → Bool) (a : Reads X) → test [] ≡ false → Shrinks a → (n m : ℕ) (ts : List Token) → length ts ≤ n → length ts ≤ m → many_at n test a ts ≡ many_at m test a ts
+same_many test a none short zero zero ts l k = refl
+same_many test a none short zero (suc m) [] l k = rw none refl
+same_many test a none short zero (suc m) (t ∷ ts) l k = absurd (omega arith)
+same_many test a none short (suc n) zero [] l k = rw none refl
+same_many test a none short (suc n) zero (t ∷ ts) l k = absurd (omega arith)
+same_many test a none short (suc n) (suc m) ts l k =
+    ap (λ r. cond (test ts) r (Ok ([], ts))) (same_part test a n m (same_many test a none short n m) short ts l k (a ts) refl)
+
+most_begun : {X : Type 0} (count : ℕ) (A : Rules X) (depth : ℕ) (front : List Token) → Begun (λ n. at_most count (A n)) depth front → Begun (λ n. many (A n)) depth front
+most_begun count A depth front b = record { value = b.value; more = b.more; spells = most_to count (A (suc depth)) b.value (front ++ b.more) b.spells }
+
+many_begins : {X : Type 0} (A : Rules X) (depth : ℕ) (a : Reads X) (first further : List ℕ) → IsField A depth a false first further → (n : ℕ) (xs : List X) (c : Token) (cs : List Token) → many (A n) xs (c ∷ cs)
+    → member (kind_of c) first ≡ true
+many_begins A depth a first further field n [] c cs h = absurd cc
+many_begins A depth a first further field n (x ∷ xs) c cs q =
+    (elim q.front as (λ f. c ∷ cs ≡ f ++ q.rest → A n x f → member (kind_of c) first ≡ true) [
+      | [] ↦ λ e k. absurd (let s : false ≡ true = field.solid n x k in cc)
+      | d ∷ ds ↦ λ e k. let same : d ≡ c = cc in subst (λ t. member (kind_of t) first ≡ true) same (field.begins n x d ds k)
+    ]) q.whole q.first
+
+pub many_field : {X : Type 0} (A : Rules X) (a : Reads X) (depth : ℕ) (test : List Token → Bool) (p q : ℕ) (further_a : List ℕ) → IsField A depth a false (p ∷ q ∷ []) further_a → Tells test (p ∷ q ∷ [])
+    → apart (p ∷ q ∷ []) further_a ≡ true → IsField (λ n. many (A n)) depth (λ ts. many_at (length ts) test a ts) true (p ∷ q ∷ []) (p ∷ q ∷ further_a)
+many_field {X} A a depth test p q further_a field tells away =
+    let few = λ (count : ℕ). at_most_field count A a depth test p q further_a field tells away in
+    let short : Shrinks a = field_shrinks A depth a (p ∷ q ∷ []) further_a field in
+    let widest : (ts : List Token) (n : ℕ) → length ts ≤ n → many_at n test a ts ≡ many_at (length ts) test a ts = λ ts n l. same_many test a tells.none short n (length ts) ts l (omega arith) in
+    record {
+      took = λ ts xs rest e.
+          let t = (few (length ts)).took ts xs rest e in
+          record {
+            front = t.front;
+            split = t.split;
+            spells = λ n enough. most_to (length ts) (A n) xs t.front (t.spells n enough);
+            looks = λ b old new k.
+                let goal_tokens : List Token = t.front ++ (b ∷ new) in
+                let n : ℕ = length ts + length goal_tokens in
+                let u = (few n).took ts xs rest (widest ts n (omega arith) ∙ e) in
+                let same : u.front ≡ t.front = append_cancel_right u.front t.front rest (sym u.split ∙ t.split) in
+                sym (widest goal_tokens n (omega arith)) ∙ ap (λ (l : List Token). many_at n test a (l ++ (b ∷ new))) (sym same) ∙ u.looks b old new k;
+          };
+      stuck = λ ts stop e.
+          let s = (few (length ts)).stuck ts stop e in
+          record {
+            before = s.before;
+            after = s.after;
+            split = s.split;
+            left = s.left;
+            begins = most_begun (length ts) A depth s.before s.begins;
+            stays = λ b old new k.
+                let goal_tokens : List Token = s.before ++ (b ∷ new) in
+                let n : ℕ = length ts + length goal_tokens in
+                let u = (few n).stuck ts stop (widest ts n (omega arith) ∙ e) in
+                let same : u.before ≡ s.before = same_cut u.before u.after s.before s.after (sym u.split ∙ s.split) (sym u.left ∙ s.left) in
+                let same_after : u.after ≡ s.after = append_cancel_left s.before u.after s.after (ap (λ (l : List Token). l ++ u.after) (sym same) ∙ sym u.split ∙ s.split) in
+                sym (widest goal_tokens n (omega arith)) ∙ ap (λ (l : List Token). many_at n test a (l ++ (b ∷ new))) (sym same) ∙ u.stays b old new (same_after ∙ k);
+            deep = λ d. let r = s.deep d in (r.0, r.1, r.2, r.3, most_begun (length ts) A depth (s.before ++ (r.0 ∷ [])) r.4);
+          };
+      some = λ n. record { value = []; text = []; spells = refl };
+      again = λ n xs front rest h clear.
+          let all : List Token = front ++ rest in
+          let count : ℕ = length xs + length all in
+          subst (Reach depth n xs rest) (widest all count (omega arith)) ((few count).again n xs front rest (most_from count (A n) xs front (omega arith) h) clear);
+      begins = many_begins A depth a (p ∷ q ∷ []) further_a field;
+      solid = λ n xs h. refl;
+    }

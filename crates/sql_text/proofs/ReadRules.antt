@@ -1,6 +1,6 @@
 -- Each reading function reads its rule.
 use Rattle.std.proofs.Common.{◌≡◌, ℕ, zero, suc, Bool, true, false, cond, List, [], ◌∷◌, ◌++◌, Option, Some, None, Result, Ok, Err, refl, sym, ap, subst, ◌∙◌, append-nil, arith, inl, inr}
-use Rattle.std.specs.Prelude.{◌&&◌, ◌==◌, is_some, option_map, ◌⊎◌}
+use Rattle.std.specs.Prelude.{◌&&◌, ◌||◌, ◌==◌, is_some, option_map, ◌⊎◌}
 use Rattle.std.proofs.lemmas.Bool.Decides.{nat_tests}
 use Rattle.sql_values.specs.declared.literal.Literal.TheVariants as literals
 use Rattle.sql_values.specs.declared.tree.ColumnName.{ColumnName}
@@ -9,21 +9,22 @@ use Rattle.sql_values.specs.declared.tree.Operand.{Operand}
 use Rattle.sql_values.specs.declared.tree.Operand.TheVariants as operands
 use Rattle.sql_values.specs.declared.tree.Cond.{Cond}
 use Rattle.sql_values.specs.declared.tree.Cond.TheVariants as conds
+use Rattle.sql_values.specs.declared.places.LockMode.TheVariants as locks
 use Rattle.sql_text.specs.declared.statement.Statement.TheVariants as statements
 use Rattle.sql_text.specs.declared.statement.SelectItems.{SelectItems}
 use Rattle.sql_text.specs.declared.statement.SelectItems.TheVariants as items
 use Rattle.sql_text.specs.declared.statement.Item.{Item}
 use Rattle.sql_text.specs.declared.token.Fixed.{Fixed}
-use Rattle.sql_text.specs.declared.token.Fixed.TheVariants.{And, As, Between, From, In, Insert, Into, Not, Null, Or, Select, Values, Where, Open, Close, Comma, Dot, Star, Semicolon, Equal, NotEqual, Less, AtMost, Greater, AtLeast, By, Commit, Count, Delete, End, For, Limit, Lock, Max, Min, Mode, Order, Prepare, Recover, Replace, Rollback, Share, Start, Sum, Update, Xa}
+use Rattle.sql_text.specs.declared.token.Fixed.TheVariants.{And, As, Between, Delete, For, From, In, Insert, Into, Lock, Mode, Not, Null, Or, Select, Set, Share, Update, Values, Where, By, Commit, Count, End, Limit, Max, Min, Order, Prepare, Recover, Replace, Rollback, Start, Sum, Xa, Open, Close, Comma, Dot, Star, Plus, Minus, Semicolon, Equal, NotEqual, Less, AtMost, Greater, AtLeast}
 use Rattle.sql_text.specs.declared.token.Token.{Token}
 use Rattle.sql_text.specs.declared.token.Token.TheVariants as tokens
 use Rattle.sql_text.specs.declared.fault.Stop.{Stop}
 use Rattle.sql_text.specs.Rules.{Rule, is, one, ◌⊳◌, ◌▷◌, ◌∣◌, opens, series, at_most_further, parenthesized, optional}
 use Rattle.sql_text.specs.Grammar.{name_of, literal_of, comparison_of, name, literal, table, column, alias, operand, literal_list, comparison, joined, conj_over, cond_over, neg, is_spider, spider_of}
-use Rattle.sql_text.specs.Grammar.{cond as cond_rule, tuple, column_list, insert, item, select_items, tab, where_cond, select, statement}
-use Rattle.sql_text.specs.Reading.{◌>>=◌, number_of, stands, begins, behind, expect, open_at, too_deep, syntax, one_at, name_at, literal_at, head_of, behind_head_at, table_at, column_at, some_name_at, alias_at, operand_at, literal_list_at, compared_at, listed_at, ranged_at, behind_not_at, behind_column_at, comparison_at, conj_by, cond_by, closed_by, neg_at, cond_at, column_list_at, insert_at, item_at, select_items_at, tab_at, where_at, select_at, body_at, optional_at, series_at, parenthesized_at, further_at, with_front}
+use Rattle.sql_text.specs.Grammar.{cond as cond_rule, tuple, column_list, insert, item, select_items, tab, where_cond, lock, locked, select, delete}
+use Rattle.sql_text.specs.Reading.{◌>>=◌, number_of, stands, begins, behind, expect, open_at, too_deep, syntax, one_at, name_at, literal_at, head_of, behind_head_at, table_at, column_at, some_name_at, alias_at, operand_at, literal_list_at, compared_at, listed_at, ranged_at, behind_not_at, behind_column_at, comparison_at, conj_by, cond_by, closed_by, neg_at, cond_at, column_list_at, insert_at, item_at, select_items_at, tab_at, where_at, share_at, for_update_at, lock_at, locked_at, select_at, delete_at, optional_at, series_at, parenthesized_at, further_at, with_front}
 use Rattle.sql_text.proofs.Fields.{Reads, Rules, kind_of, member, apart, Clear, Some_text, IsField, or_true, and_true, both_false, is_field, one_field, fixed_field, then_field}
-use Rattle.sql_text.proofs.Choices.{Tells, begins_tells, same_reader, same_rule, either_field, fixed_or, optional_field, looked}
+use Rattle.sql_text.proofs.Choices.{Tells, begins_tells, either_tells, same_reader, same_rule, either_field, fixed_or, optional_field, looked}
 use Rattle.sql_text.proofs.Nested.{zero_field, suc_field, parenthesized_field, few_field, series_field}
 
 -- ---- the same, with what is known of a field left to its type
@@ -154,6 +155,9 @@ literal_tells_fixed Start = refl
 literal_tells_fixed Sum = refl
 literal_tells_fixed Update = refl
 literal_tells_fixed Xa = refl
+literal_tells_fixed Set = refl
+literal_tells_fixed Plus = refl
+literal_tells_fixed Minus = refl
 
 literal_head : (t : Token) (ts : List Token) → stands literal_of (t ∷ ts) ≡ member (kind_of t) literal_kinds
 literal_head (tokens.Fixed f) ts = literal_tells_fixed f
@@ -164,7 +168,7 @@ literal_head (tokens.Signed n) ts = refl
 literal_head (tokens.Text t) ts = refl
 literal_head tokens.Bad ts = refl
 
-literal_tells : Tells (stands literal_of) literal_kinds
+pub literal_tells : Tells (stands literal_of) literal_kinds
 literal_tells = record { none = refl; head = literal_head }
 
 name_head_fixed : (f : Fixed) → false ≡ member (number_of f) (100 ∷ [])
@@ -214,6 +218,9 @@ name_head_fixed Start = refl
 name_head_fixed Sum = refl
 name_head_fixed Update = refl
 name_head_fixed Xa = refl
+name_head_fixed Set = refl
+name_head_fixed Plus = refl
+name_head_fixed Minus = refl
 
 name_head : (t : Token) (ts : List Token) → stands name_of (t ∷ ts) ≡ member (kind_of t) (100 ∷ [])
 name_head (tokens.Fixed f) ts = name_head_fixed f
@@ -277,6 +284,9 @@ comparison_tells_fixed Start = refl
 comparison_tells_fixed Sum = refl
 comparison_tells_fixed Update = refl
 comparison_tells_fixed Xa = refl
+comparison_tells_fixed Set = refl
+comparison_tells_fixed Plus = refl
+comparison_tells_fixed Minus = refl
 
 comparison_head : (t : Token) (ts : List Token) → stands comparison_of (t ∷ ts) ≡ member (kind_of t) comparison_kinds
 comparison_head (tokens.Fixed f) ts = comparison_tells_fixed f
@@ -291,10 +301,10 @@ comparison_tells : Tells (stands comparison_of) comparison_kinds
 comparison_tells = record { none = refl; head = comparison_head }
 
 -- a token with a value is one of the kinds that the test tells
-told_covers : {X : Type 0} (value : Token → Option X) (kinds : List ℕ) → Tells (stands value) kinds → (t : Token) (x : X) → value t ≡ Some x → member (kind_of t) kinds ≡ true
+pub told_covers : {X : Type 0} (value : Token → Option X) (kinds : List ℕ) → Tells (stands value) kinds → (t : Token) (x : X) → value t ≡ Some x → member (kind_of t) kinds ≡ true
 told_covers value kinds tells t x h = sym (tells.head t []) ∙ ap is_some h
 
-literal_field : (depth : ℕ) → IsField (λ _. literal) depth literal_at false literal_kinds []
+pub literal_field : (depth : ℕ) → IsField (λ _. literal) depth literal_at false literal_kinds []
 unfolding literal_at
 literal_field depth = one_field literal_of literal_kinds depth (record { cover = told_covers literal_of literal_kinds literal_tells; token = tokens.Fixed Null; example = literals.Null; known = refl })
 
@@ -369,7 +379,7 @@ from_table n ts (inl (v, s)) =
 from_table n ts (inr k) =
     ((is_spider k.0, n), record { front = k.0 ∷ []; rest = []; whole = k.1; first = (k.0, refl, ap (option_map (λ (m : List ℕ). (is_spider k.0, m))) k.2); second = behind_any (is_spider k.0) n })
 
-table_field : (depth : ℕ) → IsField (λ _. table) depth table_at false (100 ∷ []) (16 ∷ [])
+pub table_field : (depth : ℕ) → IsField (λ _. table) depth table_at false (100 ∷ []) (16 ∷ [])
 unfolding table_at
 table_field depth =
     same_rule (λ _. head_table) (λ _. table) depth table_at false (100 ∷ []) (16 ∷ []) (λ _. to_table) (λ _. from_table)
@@ -602,14 +612,14 @@ enclosed_field depth field = known_as neg_kinds [] refl refl (both (cond_over_fi
 some_negated : (n : ℕ) → Some_text (negated n)
 some_negated n = let s = some_neg n in record { value = conds.Not s.value; text = s.text ++ []; spells = (s.value, record { front = s.text; rest = []; whole = refl; first = s.spells; second = (refl, refl) }) }
 
-some_series : {X : Type 0} (f : Fixed) (A : Rule X) → Some_text A → Some_text (series f A)
+pub some_series : {X : Type 0} (f : Fixed) (A : Rule X) → Some_text A → Some_text (series f A)
 some_series f A s = record {
   value = s.value ∷ [];
   text = s.text ++ [];
   spells = (s.value, record { front = s.text; rest = []; whole = refl; first = s.spells; second = ([], record { front = []; rest = []; whole = refl; first = refl; second = (refl, refl) }) });
 }
 
-some_mapped : {X Y : Type 0} (A : Rule X) (f : X → Y) → Some_text A → Some_text (A ▷ λ x. is (f x))
+pub some_mapped : {X Y : Type 0} (A : Rule X) (f : X → Y) → Some_text A → Some_text (A ▷ λ x. is (f x))
 some_mapped A f s = record { value = f s.value; text = s.text ++ []; spells = (s.value, record { front = s.text; rest = []; whole = refl; first = s.spells; second = (refl, refl) }) }
 
 some_cond : (n : ℕ) → Some_text (cond_over (neg n))
@@ -648,7 +658,7 @@ any_field depth not_at open_at_ fn fo =
     (begins_tells Not) refl))
 
 -- an opening too many is told at once
-too_deep_at : {X : Type 0} (f : Fixed) (read : Reads X) (ts : List Token) (z : Result (X × List Token) Stop) → cond (begins f ts) (open_at f zero ts >>= read) z ≡ cond (begins f ts) (too_deep ts) z
+pub too_deep_at : {X : Type 0} (f : Fixed) (read : Reads X) (ts : List Token) (z : Result (X × List Token) Stop) → cond (begins f ts) (open_at f zero ts >>= read) z ≡ cond (begins f ts) (too_deep ts) z
 unfolding open_at
 too_deep_at f read ts z = elim (begins f ts) as (λ b. cond b (cond b (too_deep ts) (syntax ts) >>= read) z ≡ cond b (too_deep ts) z) [ true ↦ refl | false ↦ refl ]
 
@@ -658,7 +668,7 @@ zero_neg ts =
     too_deep_at Not (negated_at zero) ts (cond (begins Open ts) (open_at Open zero ts >>= closed_by (neg_at zero)) (comparison_at zero ts))
     ∙ ap (cond (begins Not ts) (too_deep ts)) (too_deep_at Open (closed_by (neg_at zero)) ts (comparison_at zero ts))
 
-opened_is : {X : Type 0} (f : Fixed) (depth : ℕ) (read : Reads X) (ts : List Token) (z : Result (X × List Token) Stop) → cond (begins f ts) (open_at f (suc depth) ts >>= read) z ≡ cond (begins f ts) (read (behind ts)) z
+pub opened_is : {X : Type 0} (f : Fixed) (depth : ℕ) (read : Reads X) (ts : List Token) (z : Result (X × List Token) Stop) → cond (begins f ts) (open_at f (suc depth) ts >>= read) z ≡ cond (begins f ts) (read (behind ts)) z
 unfolding open_at
 opened_is f depth read ts z = looked f ts read z
 
@@ -702,7 +712,7 @@ column_list_field depth = known_as (13 ∷ []) (13 ∷ []) refl refl
 tuples_field : (depth : ℕ) → IsField (λ n. series Comma (tuple n)) depth (series_at Comma (literal_list_at depth)) false (13 ∷ []) (15 ∷ [])
 tuples_field depth = known_as (13 ∷ []) (15 ∷ []) refl refl (series_field Comma tuple (literal_list_at depth) depth (13 ∷ []) [] (literal_list_field depth) refl)
 
-insert_field : (depth : ℕ) → IsField insert depth (insert_at depth) false (5 ∷ []) (15 ∷ [])
+pub insert_field : (depth : ℕ) → IsField insert depth (insert_at depth) false (5 ∷ []) (15 ∷ [])
 unfolding insert_at
 insert_field depth =
     behind_fixed Insert
@@ -765,20 +775,34 @@ where_field depth = known_as (12 ∷ []) (12 ∷ 9 ∷ 0 ∷ 16 ∷ []) refl ref
     (known_as neg_kinds (9 ∷ 0 ∷ 16 ∷ []) refl refl (both (cond_field depth) (λ c. is_field (Some c) depth) refl))
     (is_field None depth) refl)
 
-select_field : (depth : ℕ) → IsField select depth (select_at depth) false (10 ∷ []) (12 ∷ 9 ∷ 0 ∷ 1 ∷ 100 ∷ 16 ∷ [])
+share_field : (depth : ℕ) → IsField (λ _. In ⊳ (Share ⊳ (Mode ⊳ is locks.Shared))) depth share_at false (4 ∷ []) []
+unfolding share_at
+share_field depth = behind_fixed In (behind_fixed Share (behind_fixed Mode (is_field locks.Shared depth)))
+
+for_update_field : (depth : ℕ) → IsField (λ _. For ⊳ (Update ⊳ is locks.Exclusive)) depth for_update_at false (30 ∷ []) []
+unfolding for_update_at
+for_update_field depth = behind_fixed For (behind_fixed Update (is_field locks.Exclusive depth))
+
+pub lock_field : (depth : ℕ) → IsField (λ _. lock) depth lock_at false (32 ∷ 30 ∷ []) []
+unfolding lock_at
+lock_field depth = fixed_or Lock (λ _. In ⊳ (Share ⊳ (Mode ⊳ is locks.Shared))) share_at (λ _. For ⊳ (Update ⊳ is locks.Exclusive)) for_update_at depth false false (4 ∷ []) [] (30 ∷ []) [] (share_field depth) (for_update_field depth) refl
+
+locked_field : (depth : ℕ) → IsField (λ _. locked) depth locked_at true (32 ∷ 30 ∷ []) (32 ∷ 30 ∷ [])
+unfolding locked_at
+locked_field depth = known_as (32 ∷ 30 ∷ []) (32 ∷ 30 ∷ []) refl refl
+    (either_field (λ _. lock ▷ λ m. is (Some m)) (λ ts. lock_at ts >>= λ m. Ok (Some m.0, m.1)) (λ _. is None) (λ ts. Ok (None, ts)) (λ ts. begins Lock ts || begins For ts) depth true (32 ∷ 30 ∷ []) [] [] []
+    (known_as (32 ∷ 30 ∷ []) [] refl refl (both (lock_field depth) (λ m. is_field (Some m) depth) refl))
+    (is_field None depth) (either_tells Lock For) refl)
+
+pub select_field : (depth : ℕ) → IsField select depth (select_at depth) false (10 ∷ []) (32 ∷ 30 ∷ 12 ∷ 9 ∷ 0 ∷ 1 ∷ 100 ∷ 16 ∷ [])
 unfolding select_at
-select_field depth = known_as (10 ∷ []) (12 ∷ 9 ∷ 0 ∷ 1 ∷ 100 ∷ 16 ∷ []) refl refl
+select_field depth = known_as (10 ∷ []) (32 ∷ 30 ∷ 12 ∷ 9 ∷ 0 ∷ 1 ∷ 100 ∷ 16 ∷ []) refl refl
     (behind_fixed Select
     (both (select_items_field depth) (λ i. behind_fixed From
-    (both (tab_field depth) (λ t. both (where_field depth) (λ c. is_field (statements.Select (record { items = i; tab = t; cond = c })) depth) refl) refl)) refl))
+    (both (tab_field depth) (λ t. both (where_field depth) (λ c. both (locked_field depth) (λ m. is_field (statements.Select (record { items = i; tab = t; cond = c; lock = m })) depth) refl) refl) refl)) refl))
 
-pub body_field : (depth : ℕ) → IsField (λ n. insert n ∣ select n) depth (body_at depth) false (5 ∷ 10 ∷ []) (15 ∷ 12 ∷ 9 ∷ 0 ∷ 1 ∷ 100 ∷ 16 ∷ [])
-unfolding body_at
-body_field depth = known_as (5 ∷ 10 ∷ []) (15 ∷ 12 ∷ 9 ∷ 0 ∷ 1 ∷ 100 ∷ 16 ∷ []) refl refl
-    (either_field insert (insert_at depth) select (select_at depth) (begins Insert) depth false (5 ∷ []) (15 ∷ []) (10 ∷ []) (12 ∷ 9 ∷ 0 ∷ 1 ∷ 100 ∷ 16 ∷ [])
-    (insert_field depth) (select_field depth) (begins_tells Insert) refl)
-
--- a statement and its end
-pub whole_field : (depth : ℕ) → IsField statement depth (λ ts. body_at depth ts >>= λ s. optional_at Semicolon s.1 >>= λ e. Ok (s.0, e.1)) false (5 ∷ 10 ∷ []) (18 ∷ 15 ∷ 12 ∷ 9 ∷ 0 ∷ 1 ∷ 100 ∷ 16 ∷ [])
-whole_field depth = known_as (5 ∷ 10 ∷ []) (18 ∷ 15 ∷ 12 ∷ 9 ∷ 0 ∷ 1 ∷ 100 ∷ 16 ∷ []) refl refl
-    (both (body_field depth) (λ s. both (optional_field Semicolon depth) (λ _. is_field s depth) refl) refl)
+pub delete_field : (depth : ℕ) → IsField delete depth (delete_at depth) false (28 ∷ []) (12 ∷ 9 ∷ 0 ∷ 16 ∷ [])
+unfolding delete_at
+delete_field depth = known_as (28 ∷ []) (12 ∷ 9 ∷ 0 ∷ 16 ∷ []) refl refl
+    (behind_fixed Delete (behind_fixed From
+    (both (table_field depth) (λ t. both (where_field depth) (λ c. is_field (statements.Delete (record { table = t; cond = c })) depth) refl) refl)))

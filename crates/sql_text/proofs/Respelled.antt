@@ -11,10 +11,10 @@ use Rattle.sql_text.specs.declared.token.Fixed.{Fixed}
 use Rattle.sql_text.specs.declared.token.Fixed.TheVariants.{As, Not, Null, Open, Close, Dot}
 use Rattle.sql_text.specs.declared.token.Token.{Token}
 use Rattle.sql_text.specs.declared.token.Token.TheVariants as tokens
-use Rattle.sql_text.specs.Rules.{Rule, is, series, further, at_most_further, parenthesized, optional}
+use Rattle.sql_text.specs.Rules.{Rule, is, series, further, many, at_most_further, parenthesized, optional}
 use Rattle.sql_text.specs.Grammar.{name_of, literal_of, name, literal, table, column, alias, operand}
 use Rattle.sql_text.specs.Printing.{literal_text, name_text, joined_text, column_text, operand_text, negation_text, alias_text}
-use Rattle.sql_text.proofs.Written.{Atom, Suffix, Prefix, Separator, closing_of, nothing_behind, atom_suffix, prefix_atom, separator_atom, suffix_suffix, atom_separator}
+use Rattle.sql_text.proofs.Written.{AtomAt, Atom, Suffix, Prefix, Separator, closing_of, nothing_behind, atom_suffix, prefix_atom, separator_atom, suffix_suffix, atom_separator}
 use Rattle.sql_text.proofs.Lexemes as lexemes
 use Rattle.sql_text.proofs.Sound.{InRange, Sound, Sounds, escapes_utf8}
 use Rattle.sql_text.proofs.Told.{Told, Respells, first_sound, second_sound, mapped, unmapped, retold}
@@ -37,17 +37,21 @@ qualified n m = record { table = Some n; column = m }
 module _ (change : Token → Token) (fixes : lexemes.Fixes change) where
   -- ---- names and literals
 
-  pub name_told : Respells (Atom change) name name_text
-  name_told n ts h sound =
+  -- a name, behind what ends an operand or not
+  pub name_told_at : (operand : Bool) → Respells ((AtomAt change) operand) name name_text
+  name_told_at operand n ts h sound =
       let s : Sounds (h.0 ∷ []) = subst Sounds h.1 sound in
-      (tokens.Quoted n ∷ [], (tokens.Quoted n, refl, refl), (lexemes.name_atom change fixes) n (name_case h.0 n h.2 s.0))
+      (tokens.Quoted n ∷ [], (tokens.Quoted n, refl, refl), (lexemes.name_atom change fixes) operand n (name_case h.0 n h.2 s.0))
+
+  pub name_told : Respells (Atom change) name name_text
+  name_told = name_told_at false
 
   number_told : (z : ℤ) → InRange z → Told (Atom change) literal (literals.Number z) (literal_text (literals.Number z))
-  number_told (pos n) h = (tokens.Digits (pos n) ∷ [], (tokens.Digits (pos n), refl, refl), (lexemes.digits_atom change fixes) n h)
+  number_told (pos n) h = (tokens.Digits (pos n) ∷ [], (tokens.Digits (pos n), refl, refl), (lexemes.digits_atom change fixes) false n h)
   number_told (negsuc n) h = (tokens.Signed (negsuc n) ∷ [], (tokens.Signed (negsuc n), refl, refl), (lexemes.minus_atom change fixes) n h)
 
   text_told : (t : List ℕ) → IsUtf8 t → Told (Atom change) literal (literals.Text t) (literal_text (literals.Text t))
-  text_told t u = (tokens.Text t ∷ [], (tokens.Text t, refl, refl), (lexemes.text_atom change fixes) t u (escapes_utf8 t u))
+  text_told t u = (tokens.Text t ∷ [], (tokens.Text t, refl, refl), (lexemes.text_atom change fixes) false t u (escapes_utf8 t u))
 
   literal_case : (t : Token) (l : Literal) → literal_of t ≡ Some l → Sound t → Told (Atom change) literal l (literal_text l)
   literal_case (tokens.Digits z) l e h = let same : literals.Number z ≡ l = cc in subst (λ (k : Literal). Told (Atom change) literal k (literal_text k)) same (number_told z h)
@@ -89,6 +93,14 @@ module _ (change : Token → Token) (fixes : lexemes.Fixes change) where
         (x, record { front = a.0; rest = b.0; whole = refl; first = a.1; second = mapped (further f A) (λ ys. is (x ∷ ys)) rest.0 (x ∷ rest.0) b.0 b.1 (refl, refl) }),
         (atom_suffix change) (text x) (flat_map (λ y. between ++ y) (map text rest.0)) a.0 b.0 a.2 b.2,
       )
+
+  -- parts, one behind the other
+  pub many_told : {X : Type 0} (A : Rule X) (text : X → List ℕ) → Respells (Suffix change) A text → (xs : List X) (ts : List Token) → many A xs ts → Sounds ts → Told (Suffix change) (many A) xs (flat_map text xs)
+  many_told A text told [] ts h sound = ([], refl, (nothing_behind change))
+  many_told A text told (x ∷ xs) ts s sound =
+      let a = told x s.front s.first (first_sound s sound) in
+      let b = many_told A text told xs s.rest s.second (second_sound s sound) in
+      (a.0 ++ b.0, record { front = a.0; rest = b.0; whole = refl; first = a.1; second = b.1 }, (suffix_suffix change) (text x) (flat_map text xs) a.0 b.0 a.2 b.2)
 
   -- in parentheses
   pub enclosed_told : {X : Type 0} (A : Rule X) (text : X → List ℕ) → Respells (Atom change) A text → (depth : ℕ) (x : X) (ts : List Token) → parenthesized A depth x ts → Sounds ts

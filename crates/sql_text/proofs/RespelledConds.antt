@@ -33,22 +33,22 @@ shown_any : (parts : List Cond) → shown_cond (conds.Any parts) ≡ (2, joined_
 shown_any parts = ap shown_cond (sym (conds.rolls-Any parts)) ∙ fold-roll-Cond Shown layer_text (layers.Any parts)
 
 -- one part alone
-alone : (f : Fixed) (A : Rule Cond) (node : List Cond → Cond) (c : Cond) (ts : List Token) → A c ts → (series f A ▷ λ parts. is (joined node parts)) c ts
+pub alone : {X : Type 0} (f : Fixed) (A : Rule X) (node : List X → X) (c : X) (ts : List Token) → A c ts → (series f A ▷ λ parts. is (joined node parts)) c ts
 alone f A node c ts h =
     mapped (series f A) (λ parts. is (joined node parts)) (c ∷ []) c ts
     (c, record { front = ts; rest = []; whole = sym (append-nil ts); first = h; second = ([], record { front = []; rest = []; whole = refl; first = refl; second = (refl, refl) }) })
     (refl, refl)
 
--- the parts of a condition, which is one of them or a node
-pub record Parts (f : Fixed) (A : Rule Cond) (node : List Cond → Cond) (c : Cond) (ts : List Token) : Type 0 where
-  pub first : Cond
-  pub others : List Cond
+-- the parts of a value, which is one of them or a node
+pub record Parts {X : Type 0} (f : Fixed) (A : Rule X) (node : List X → X) (c : X) (ts : List Token) : Type 0 where
+  pub first : X
+  pub others : List X
   pub is : c ≡ joined node (first ∷ others)
   pub spells : series f A (first ∷ others) ts
   pub single : others ≡ [] → A first ts
 
-parts_of : (f : Fixed) (A : Rule Cond) (node : List Cond → Cond) (c : Cond) (ts : List Token) → (series f A ▷ λ parts. is (joined node parts)) c ts → Parts f A node c ts
-parts_of f A node c ts h =
+pub parts_of : {X : Type 0} (f : Fixed) (A : Rule X) (node : List X → X) (c : X) (ts : List Token) → (series f A ▷ λ parts. is (joined node parts)) c ts → Parts f A node c ts
+parts_of {X} f A node c ts h =
     let u = unmapped (series f A) (joined node) c ts h in
     let s = u.2.1 in
     let r = s.second.1 in
@@ -58,9 +58,9 @@ parts_of f A node c ts h =
       first = u.2.0;
       others = s.second.0;
       is = u.1 ∙ ap (joined node) all;
-      spells = subst (λ (l : List Cond). series f A l ts) all u.2;
+      spells = subst (λ (l : List X). series f A l ts) all u.2;
       single = λ none.
-          let nothing : r.front ≡ [] = subst (λ (l : List Cond). further f A l r.front) none r.first in
+          let nothing : r.front ≡ [] = subst (λ (l : List X). further f A l r.front) none r.first in
           subst (A u.2.0) (sym (s.whole ∙ ap (λ (l : List Token). s.front ++ l) (behind ∙ nothing) ∙ append-nil s.front)) s.first;
     }
 
@@ -75,7 +75,7 @@ deeper {X} A n read empty first further field m x ts l h =
       | Err stop ↦ λ e far. absurd (let less : n < n = far.1 in omega arith)
     ]) refl near
 
-lower_level : (k : ℕ) → nat_lt 0 k ≡ false → (nat_lt 1 k ≡ false) × (nat_lt 2 k ≡ false)
+pub lower_level : (k : ℕ) → nat_lt 0 k ≡ false → (nat_lt 1 k ≡ false) × (nat_lt 2 k ≡ false)
 lower_level k h = (grind (arith, nat_tests), grind (arith, nat_tests))
 
 -- the texts of parts, at a level

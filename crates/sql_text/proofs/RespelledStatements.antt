@@ -1,23 +1,26 @@
 -- What is printed of a statement has tokens that spell it.
 use Rattle.std.proofs.Common.{◌≡◌, ℕ, map, List, [], ◌∷◌, ◌++◌, true, false, Some, None, refl, sym, ap, subst, ◌∙◌, append_assoc, inl, inr, codes}
 use Rattle.std.specs.List.{flat_map}
+use Rattle.sql_values.specs.declared.places.LockMode.TheVariants as locks
 use Rattle.sql_text.specs.declared.statement.Statement.{Statement}
 use Rattle.sql_text.specs.declared.statement.Statement.TheVariants as statements
 use Rattle.sql_text.specs.declared.statement.SelectItems.TheVariants as items
 use Rattle.sql_text.specs.declared.statement.Item.{Item}
 use Rattle.sql_text.specs.declared.statement.Tab.{Tab}
-use Rattle.sql_text.specs.declared.token.Fixed.TheVariants.{From, Insert, Into, Select, Values, Where, Open, Close, Comma, Star, Semicolon}
+use Rattle.sql_text.specs.declared.statement.Assignment.{Assignment}
+use Rattle.sql_text.specs.declared.token.Fixed.TheVariants.{Delete, For, From, In, Insert, Into, Lock, Mode, Select, Set, Share, Update, Values, Where, Open, Close, Comma, Star, Semicolon, Equal}
 use Rattle.sql_text.specs.declared.token.Token.{Token}
 use Rattle.sql_text.specs.declared.token.Token.TheVariants as tokens
-use Rattle.sql_text.specs.Rules.{is, ◌▷◌, ◌∣◌, series, at_most_further, parenthesized, optional}
-use Rattle.sql_text.specs.Grammar.{name, literal, alias, cond as cond_rule, tuple, column_list, insert, item, select_items, where_cond, select, statement}
-use Rattle.sql_text.specs.Printing.{literal_text, name_text, joined_text, column_text, literals_text, cond_text, alias_text, item_text, items_text, where_text, columns_text, tuple_text, printed}
+use Rattle.sql_text.specs.Rules.{is, ◌▷◌, series, at_most_further, parenthesized, optional}
+use Rattle.sql_text.specs.Grammar.{name, literal, alias, cond as cond_rule, expr, tuple, column_list, insert, item, select_items, where_cond, lock, locked, select, assignment, update, delete, body, statement}
+use Rattle.sql_text.specs.Printing.{literal_text, name_text, joined_text, column_text, literals_text, cond_text, alias_text, item_text, items_text, where_text, columns_text, tuple_text, expr_text, lock_text, locked_text, assignment_text, printed}
 use Rattle.sql_text.proofs.Written.{Atom, Suffix, prefix_of, nothing_behind, atom_suffix, prefix_atom, separator_atom, suffix_suffix, separator_alone}
 use Rattle.sql_text.proofs.Lexemes as lexemes
 use Rattle.sql_text.proofs.Sound.{Sounds}
 use Rattle.sql_text.proofs.Told.{Respells, first_sound, second_sound, mapped, unmapped, retold}
 use Rattle.sql_text.proofs.Respelled.{alias_told, column_told, enclosed_told, few_told, literal_told, name_told, series_told, table_told}
 use Rattle.sql_text.proofs.RespelledConds.{cond_told}
+use Rattle.sql_text.proofs.RespelledExprs.{expr_told}
 
 module _ (change : Token → Token) (fixes : lexemes.Fixes change) where
   -- ---- statements
@@ -140,6 +143,21 @@ module _ (change : Token → Token) (fixes : lexemes.Fixes change) where
       )
   where_told depth c ts (inr h) sound = retold (Suffix change) (where_cond depth) where_text c None h.0 ([], inr (refl, refl), (nothing_behind change))
 
+  pub lock_told : Respells (Suffix change) lock lock_text
+  lock_told m ts (inl h) sound =
+      retold (Suffix change) lock lock_text m locks.Shared h.2.2.2.2.0
+      (tokens.Fixed Lock ∷ tokens.Fixed In ∷ tokens.Fixed Share ∷ tokens.Fixed Mode ∷ [], inl (tokens.Fixed In ∷ tokens.Fixed Share ∷ tokens.Fixed Mode ∷ [], refl, (tokens.Fixed Share ∷ tokens.Fixed Mode ∷ [], refl, (tokens.Fixed Mode ∷ [], refl, ([], refl, (refl, refl))))), lexemes.share_mode change fixes)
+  lock_told m ts (inr h) sound =
+      retold (Suffix change) lock lock_text m locks.Exclusive h.2.2.0
+      (tokens.Fixed For ∷ tokens.Fixed Update ∷ [], inr (tokens.Fixed Update ∷ [], refl, ([], refl, (refl, refl))), lexemes.for_update change fixes)
+
+  locked_told : Respells (Suffix change) locked locked_text
+  locked_told m ts (inl h) sound =
+      let u = unmapped lock Some m ts h in
+      let a = lock_told u.0 ts u.2 sound in
+      retold (Suffix change) locked locked_text m (Some u.0) u.1 (a.0, inl (mapped lock (λ k. is (Some k)) u.0 (Some u.0) a.0 a.1 (refl, refl)), a.2)
+  locked_told m ts (inr h) sound = retold (Suffix change) locked locked_text m None h.0 ([], inr (refl, refl), (nothing_behind change))
+
   pub select_told : (depth : ℕ) → Respells (Atom change) (select depth) printed
   unfolding printed
   select_told depth x ts (rest, e, (i, s)) sound =
@@ -147,59 +165,162 @@ module _ (change : Token → Token) (fixes : lexemes.Fixes change) where
       let f = s.second in
       let after_from : Sounds f.0 = (let k : Sounds (tokens.Fixed From ∷ f.0) = subst Sounds f.1 (second_sound s inside) in k.1) in
       let t = f.2 in
-      let w = unmapped (where_cond depth) (λ c. statements.Select (record { items = i; tab = t.0; cond = c })) x t.1.rest t.1.second in
+      let w = t.1.second in
+      let after_tab : Sounds t.1.rest = second_sound t.1 after_from in
+      let u = unmapped locked (λ m. statements.Select (record { items = i; tab = t.0; cond = w.0; lock = m })) x w.1.rest w.1.second in
       let n = t.1.first in
       let k = unmapped alias (λ a. record { table = n.0; alias = a }) t.0 n.1.rest n.1.second in
       let in_tab : Sounds t.1.front = first_sound t.1 after_from in
       let a = items_told i s.front s.first (first_sound s inside) in
       let b = (table_told change fixes) n.0 n.1.front n.1.first (first_sound n.1 in_tab) in
       let c = (alias_told change fixes) k.0 n.1.rest k.2 (second_sound n.1 in_tab) in
-      let d = where_told depth w.0 t.1.rest w.2 (second_sound t.1 after_from) in
+      let d = where_told depth w.0 w.1.front w.1.first (first_sound w.1 after_tab) in
+      let m = locked_told u.0 w.1.rest u.2 (second_sound w.1 after_tab) in
       let from : Tab = record { table = n.0; alias = k.0 } in
-      let value : Statement = statements.Select (record { items = i; tab = from; cond = w.0 }) in
-      let same : x ≡ value = w.1 ∙ ap (λ (v : Tab). statements.Select (record { items = i; tab = v; cond = w.0 })) k.1 in
+      let value : Statement = statements.Select (record { items = i; tab = from; cond = w.0; lock = u.0 }) in
+      let same : x ≡ value = u.1 ∙ ap (λ (v : Tab). statements.Select (record { items = i; tab = v; cond = w.0; lock = u.0 })) k.1 in
       let source : List Token = b.0 ++ c.0 in
-      let behind : List ℕ = alias_text k.0 ++ where_text w.0 in
+      let end : List Token = d.0 ++ m.0 in
+      let behind : List ℕ = alias_text k.0 ++ (where_text w.0 ++ locked_text u.0) in
       retold (Atom change) (select depth) printed x value same (
-        tokens.Fixed Select ∷ (a.0 ++ (tokens.Fixed From ∷ (source ++ d.0))),
+        tokens.Fixed Select ∷ (a.0 ++ (tokens.Fixed From ∷ (source ++ end))),
         (
-          a.0 ++ (tokens.Fixed From ∷ (source ++ d.0)),
+          a.0 ++ (tokens.Fixed From ∷ (source ++ end)),
           refl,
           (
             i,
             record {
               front = a.0;
-              rest = tokens.Fixed From ∷ (source ++ d.0);
+              rest = tokens.Fixed From ∷ (source ++ end);
               whole = refl;
               first = a.1;
               second = (
-                source ++ d.0,
+                source ++ end,
                 refl,
                 (
                   from,
                   record {
                     front = source;
-                    rest = d.0;
+                    rest = end;
                     whole = refl;
                     first = (n.0, record { front = b.0; rest = c.0; whole = refl; first = b.1; second = mapped alias (λ v. is (record { table = n.0; alias = v })) k.0 from c.0 c.1 (refl, refl) });
-                    second = mapped (where_cond depth) (λ v. is (statements.Select (record { items = i; tab = from; cond = v }))) w.0 value d.0 d.1 (refl, refl);
+                    second = (
+                      w.0,
+                      record {
+                        front = d.0;
+                        rest = m.0;
+                        whole = refl;
+                        first = d.1;
+                        second = mapped locked (λ v. is (statements.Select (record { items = i; tab = from; cond = w.0; lock = v }))) u.0 value m.0 m.1 (refl, refl);
+                      },
+                    );
                   },
                 ),
               );
             },
           ),
         ),
-        subst (λ (l : List Token). (Atom change) (codes "SELECT " ++ (items_text i ++ (codes " FROM " ++ (name_text n.0 ++ behind)))) (tokens.Fixed Select ∷ (a.0 ++ (tokens.Fixed From ∷ l)))) (sym (append_assoc b.0 c.0 d.0))
-            ((prefix_atom change) (codes "SELECT ") (items_text i ++ (codes " FROM " ++ (name_text n.0 ++ behind))) (tokens.Fixed Select ∷ []) (a.0 ++ (tokens.Fixed From ∷ (b.0 ++ (c.0 ++ d.0)))) (lexemes.select_prefix change fixes)
-            ((atom_suffix change) (items_text i) (codes " FROM " ++ (name_text n.0 ++ behind)) a.0 (tokens.Fixed From ∷ (b.0 ++ (c.0 ++ d.0))) a.2
-            ((separator_atom change) (codes " FROM ") (name_text n.0 ++ behind) (tokens.Fixed From ∷ []) (b.0 ++ (c.0 ++ d.0)) (lexemes.from_text change fixes)
-            ((atom_suffix change) (name_text n.0) behind b.0 (c.0 ++ d.0) b.2
-            ((suffix_suffix change) (alias_text k.0) (where_text w.0) c.0 d.0 c.2 d.2))))),
+        subst (λ (l : List Token). (Atom change) (codes "SELECT " ++ (items_text i ++ (codes " FROM " ++ (name_text n.0 ++ behind)))) (tokens.Fixed Select ∷ (a.0 ++ (tokens.Fixed From ∷ l)))) (sym (append_assoc b.0 c.0 end))
+            ((prefix_atom change) (codes "SELECT ") (items_text i ++ (codes " FROM " ++ (name_text n.0 ++ behind))) (tokens.Fixed Select ∷ []) (a.0 ++ (tokens.Fixed From ∷ (b.0 ++ (c.0 ++ end)))) (lexemes.select_prefix change fixes)
+            ((atom_suffix change) (items_text i) (codes " FROM " ++ (name_text n.0 ++ behind)) a.0 (tokens.Fixed From ∷ (b.0 ++ (c.0 ++ end))) a.2
+            ((separator_atom change) (codes " FROM ") (name_text n.0 ++ behind) (tokens.Fixed From ∷ []) (b.0 ++ (c.0 ++ end)) (lexemes.from_text change fixes)
+            ((atom_suffix change) (name_text n.0) behind b.0 (c.0 ++ end) b.2
+            ((suffix_suffix change) (alias_text k.0) (where_text w.0 ++ locked_text u.0) c.0 end c.2
+            ((suffix_suffix change) (where_text w.0) (locked_text u.0) d.0 m.0 d.2 m.2)))))),
       )
 
-  body_told : (depth : ℕ) → Respells (Atom change) (insert depth ∣ select depth) printed
+  assignment_told : (depth : ℕ) → Respells (Atom change) (assignment depth) assignment_text
+  assignment_told depth x ts (n, s) sound =
+      let f = s.second in
+      let inner : Sounds f.0 = (let k : Sounds (tokens.Fixed Equal ∷ f.0) = subst Sounds f.1 (second_sound s sound) in k.1) in
+      let u = unmapped (expr depth) (λ e. record { column = n; value = e }) x f.0 f.2 in
+      let a = (name_told change fixes) n s.front s.first (first_sound s sound) in
+      let b = (expr_told change fixes) depth u.0 f.0 u.2 inner in
+      let value : Assignment = record { column = n; value = u.0 } in
+      retold (Atom change) (assignment depth) assignment_text x value u.1 (
+        a.0 ++ (tokens.Fixed Equal ∷ b.0),
+        (n, record { front = a.0; rest = tokens.Fixed Equal ∷ b.0; whole = refl; first = a.1; second = (b.0, refl, mapped (expr depth) (λ e. is (record { column = n; value = e })) u.0 value b.0 b.1 (refl, refl)) }),
+        (atom_suffix change) (name_text n) (codes " = " ++ expr_text u.0) a.0 (tokens.Fixed Equal ∷ b.0) a.2
+            ((separator_atom change) (codes " = ") (expr_text u.0) (tokens.Fixed Equal ∷ []) b.0 (lexemes.equal_text change fixes) b.2),
+      )
+
+  pub update_told : (depth : ℕ) → Respells (Atom change) (update depth) printed
+  unfolding printed
+  update_told depth x ts (rest, e, (t, s)) sound =
+      let inside : Sounds rest = (let k : Sounds (tokens.Fixed Update ∷ rest) = subst Sounds e sound in k.1) in
+      let f = s.second in
+      let after_set : Sounds f.0 = (let k : Sounds (tokens.Fixed Set ∷ f.0) = subst Sounds f.1 (second_sound s inside) in k.1) in
+      let l = f.2 in
+      let u = unmapped (where_cond depth) (λ c. statements.Update (record { table = t; sets = l.0; cond = c })) x l.1.rest l.1.second in
+      let a = (table_told change fixes) t s.front s.first (first_sound s inside) in
+      let b = (series_told change fixes) Comma (assignment depth) assignment_text (codes ", ") (lexemes.spaced_comma change fixes) (assignment_told depth) l.0 l.1.front l.1.first (first_sound l.1 after_set) in
+      let c = where_told depth u.0 l.1.rest u.2 (second_sound l.1 after_set) in
+      let value : Statement = statements.Update (record { table = t; sets = l.0; cond = u.0 }) in
+      let sets : List ℕ = joined_text (codes ", ") (map assignment_text l.0) in
+      retold (Atom change) (update depth) printed x value u.1 (
+        tokens.Fixed Update ∷ (a.0 ++ (tokens.Fixed Set ∷ (b.0 ++ c.0))),
+        (
+          a.0 ++ (tokens.Fixed Set ∷ (b.0 ++ c.0)),
+          refl,
+          (
+            t,
+            record {
+              front = a.0;
+              rest = tokens.Fixed Set ∷ (b.0 ++ c.0);
+              whole = refl;
+              first = a.1;
+              second = (
+                b.0 ++ c.0,
+                refl,
+                (
+                  l.0,
+                  record {
+                    front = b.0;
+                    rest = c.0;
+                    whole = refl;
+                    first = b.1;
+                    second = mapped (where_cond depth) (λ v. is (statements.Update (record { table = t; sets = l.0; cond = v }))) u.0 value c.0 c.1 (refl, refl);
+                  },
+                ),
+              );
+            },
+          ),
+        ),
+        (prefix_atom change) (codes "UPDATE ") (name_text t ++ (codes " SET " ++ (sets ++ where_text u.0))) (tokens.Fixed Update ∷ []) (a.0 ++ (tokens.Fixed Set ∷ (b.0 ++ c.0))) (lexemes.update_prefix change fixes)
+            ((atom_suffix change) (name_text t) (codes " SET " ++ (sets ++ where_text u.0)) a.0 (tokens.Fixed Set ∷ (b.0 ++ c.0)) a.2
+            ((separator_atom change) (codes " SET ") (sets ++ where_text u.0) (tokens.Fixed Set ∷ []) (b.0 ++ c.0) (lexemes.set_text change fixes)
+            ((atom_suffix change) sets (where_text u.0) b.0 c.0 b.2 c.2))),
+      )
+
+  pub delete_told : (depth : ℕ) → Respells (Atom change) (delete depth) printed
+  unfolding printed
+  delete_told depth x ts (rest, e, (more, f, (t, s))) sound =
+      let outer : Sounds rest = (let k : Sounds (tokens.Fixed Delete ∷ rest) = subst Sounds e sound in k.1) in
+      let inner : Sounds more = (let k : Sounds (tokens.Fixed From ∷ more) = subst Sounds f outer in k.1) in
+      let u = unmapped (where_cond depth) (λ c. statements.Delete (record { table = t; cond = c })) x s.rest s.second in
+      let a = (table_told change fixes) t s.front s.first (first_sound s inner) in
+      let b = where_told depth u.0 s.rest u.2 (second_sound s inner) in
+      let value : Statement = statements.Delete (record { table = t; cond = u.0 }) in
+      retold (Atom change) (delete depth) printed x value u.1 (
+        tokens.Fixed Delete ∷ tokens.Fixed From ∷ (a.0 ++ b.0),
+        (
+          tokens.Fixed From ∷ (a.0 ++ b.0),
+          refl,
+          (
+            a.0 ++ b.0,
+            refl,
+            (t, record { front = a.0; rest = b.0; whole = refl; first = a.1; second = mapped (where_cond depth) (λ v. is (statements.Delete (record { table = t; cond = v }))) u.0 value b.0 b.1 (refl, refl) }),
+          ),
+        ),
+        (prefix_atom change) (codes "DELETE FROM ") (name_text t ++ where_text u.0) (tokens.Fixed Delete ∷ tokens.Fixed From ∷ []) (a.0 ++ b.0) (lexemes.delete_prefix change fixes)
+            ((atom_suffix change) (name_text t) (where_text u.0) a.0 b.0 a.2 b.2),
+      )
+
+  body_told : (depth : ℕ) → Respells (Atom change) (body depth) printed
   body_told depth s ts (inl h) sound = let a = insert_told depth s ts h sound in (a.0, inl a.1, a.2)
-  body_told depth s ts (inr h) sound = let a = select_told depth s ts h sound in (a.0, inr a.1, a.2)
+  body_told depth s ts (inr (inl h)) sound = let a = select_told depth s ts h sound in (a.0, inr (inl a.1), a.2)
+  body_told depth s ts (inr (inr (inl h))) sound = let a = update_told depth s ts h sound in (a.0, inr (inr (inl a.1)), a.2)
+  body_told depth s ts (inr (inr (inr h))) sound = let a = delete_told depth s ts h sound in (a.0, inr (inr (inr a.1)), a.2)
 
   pub statement_told : (depth : ℕ) → Respells (Atom change) (statement depth) printed
   statement_told depth x ts (s, q) sound =
@@ -207,6 +328,6 @@ module _ (change : Token → Token) (fixes : lexemes.Fixes change) where
       let a = body_told depth s q.front q.first (first_sound q sound) in
       retold (Atom change) (statement depth) printed x s same (
         a.0,
-        mapped (insert depth ∣ select depth) (λ v. optional Semicolon ▷ λ _. is v) s s a.0 a.1 (false, record { front = []; rest = []; whole = refl; first = inr (refl, refl); second = (refl, refl) }),
+        mapped (body depth) (λ v. optional Semicolon ▷ λ _. is v) s s a.0 a.1 (false, record { front = []; rest = []; whole = refl; first = inr (refl, refl); second = (refl, refl) }),
         a.2,
       )

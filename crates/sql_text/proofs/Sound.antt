@@ -1,6 +1,6 @@
 -- The tokens of a text have values that have a text: names are names, numbers fit, texts are UTF-8.
 use Rattle.std.proofs.Common.{◌≡◌, ℕ, ℤ, pos, negsuc, neg_ℤ, zero, suc, ◌+◌, ◌<◌, ◌≤◌, ◌^◌, map, List, [], ◌∷◌, ◌++◌, length, take, drop, slice_index, length-drop, get_or, Bool, true, false, cond, Option, Some, None, refl, sym, ap, subst, ◌∙◌, append-nil, arith, inl, inr}
-use Rattle.std.specs.Prelude.{◌==◌, ◌&&◌, ◌||◌, nat_lt, nat_le}
+use Rattle.std.specs.Prelude.{◌==◌, ◌&&◌, ◌||◌, not, nat_lt, nat_le}
 use Rattle.std.specs.Int.{is_in_range}
 use Rattle.std.specs.Option.{unwrap_or}
 use Rattle.std.specs.List.{flat_map}
@@ -16,9 +16,10 @@ use lib.Utf8.{scalar, scalars, encode, encodes}
 use Rattle.sql_values.specs.Names.{is_name, begins_name, continues_name}
 use Rattle.sql_text.specs.declared.token.Fixed.{Fixed}
 use Rattle.sql_text.specs.declared.token.Fixed.TheVariants.{Open, Close, Comma, Dot, Star, Semicolon, Equal, NotEqual, Less, AtMost, Greater, AtLeast}
+use Rattle.sql_text.specs.declared.token.Before.{Before}
 use Rattle.sql_text.specs.declared.token.Token.{Token}
 use Rattle.sql_text.specs.declared.token.Token.TheVariants as tokens
-use Rattle.sql_text.specs.Tokens.{run, value_after, word_token, keyword_of, word_at, digits_token, signed_token, digits_at, signed_at, Plain, text_from, text_at, up_to, quoted_at, starts, rest_of, symbol_at, is_blank, comment_at, skipped, seen, other_at, lexeme_at, Placed, Step, placed, step_at, onward, tokens_within, placed_tokens, tokens_of}
+use Rattle.sql_text.specs.Tokens.{run, value_after, word_token, keyword_of, word_at, digits_token, signed_token, sign_token, digits_at, signed_at, Plain, text_from, text_at, up_to, quoted_at, starts, rest_of, symbol_at, is_blank, comment_at, skipped, seen, other_at, lexeme_at, ends_operand, Placed, Step, placed, step_at, onward, tokens_within, at_start, placed_tokens, tokens_of}
 use Rattle.sql_text.specs.Printing.{escaped}
 use Rattle.sql_text.proofs.Lexemes.{is_plain, plain_utf8}
 
@@ -218,11 +219,15 @@ number_sound : (minus : Bool) (n : ℕ) → Sound (signed_token minus n)
 number_sound true n = minus_case n (nat_le n (2 ^ 127)) refl
 number_sound false n = plus_case n (nat_lt n (2 ^ 127)) refl
 
-signed_sound : (minus : Bool) (bytes : List ℕ) → Sound (signed_at minus bytes).0
-signed_sound minus [] = tt
-signed_sound minus (b ∷ bytes) =
-    either (λ (r : Token × List ℕ). Sound r.0) (is_ascii_digit b) (signed_token minus (value_after 0 (run is_ascii_digit (b ∷ bytes)).0), (run is_ascii_digit (b ∷ bytes)).1) (tokens.Bad, bytes)
-    (number_sound minus (value_after 0 (run is_ascii_digit (b ∷ bytes)).0)) tt
+sign_sound : (minus : Bool) → Sound (sign_token minus)
+sign_sound true = tt
+sign_sound false = tt
+
+signed_sound : (operand minus : Bool) (bytes : List ℕ) → Sound (signed_at operand minus bytes).0
+signed_sound operand minus [] = sign_sound minus
+signed_sound operand minus (b ∷ bytes) =
+    either (λ (r : Token × List ℕ). Sound r.0) (is_ascii_digit b && not operand) (signed_token minus (value_after 0 (run is_ascii_digit (b ∷ bytes)).0), (run is_ascii_digit (b ∷ bytes)).1) (sign_token minus, b ∷ bytes)
+    (number_sound minus (value_after 0 (run is_ascii_digit (b ∷ bytes)).0)) (sign_sound minus)
 
 -- a symbol has no value
 ten_cases : {A : Type 0} (P : A → Type 0) (a b c d e f g h i j : Bool) (q r s t u v w x y z k : A) → P q → P r → P s → P t → P u → P v → P w → P x → P y → P z → P k
@@ -243,11 +248,11 @@ symbol_sound b bytes =
     (either (λ (r : Token × List ℕ). Sound r.0) (starts 61 bytes) (tokens.Fixed AtLeast, rest_of bytes) (tokens.Fixed Greater, bytes) tt tt)
     tt tt
 
-other_sound : (b : ℕ) (bytes : List ℕ) → Sound (other_at b bytes).0
-other_sound b bytes =
+other_sound : (operand : Bool) (b : ℕ) (bytes : List ℕ) → Sound (other_at operand b bytes).0
+other_sound operand b bytes =
     let P : Token × List ℕ → Type 0 = λ r. Sound r.0 in
-    either P (b == 43) (signed_at false bytes) (cond (b == 45) (signed_at true bytes) (cond (b == 39 || b == 34) (text_at (text_from b Plain bytes)) (cond (b == 96) (quoted_at (up_to 96 bytes)) (symbol_at b bytes)))) (signed_sound false bytes)
-    (either P (b == 45) (signed_at true bytes) (cond (b == 39 || b == 34) (text_at (text_from b Plain bytes)) (cond (b == 96) (quoted_at (up_to 96 bytes)) (symbol_at b bytes))) (signed_sound true bytes)
+    either P (b == 43) (signed_at operand false bytes) (cond (b == 45) (signed_at operand true bytes) (cond (b == 39 || b == 34) (text_at (text_from b Plain bytes)) (cond (b == 96) (quoted_at (up_to 96 bytes)) (symbol_at b bytes)))) (signed_sound operand false bytes)
+    (either P (b == 45) (signed_at operand true bytes) (cond (b == 39 || b == 34) (text_at (text_from b Plain bytes)) (cond (b == 96) (quoted_at (up_to 96 bytes)) (symbol_at b bytes))) (signed_sound operand true bytes)
     (either P (b == 39 || b == 34) (text_at (text_from b Plain bytes)) (cond (b == 96) (quoted_at (up_to 96 bytes)) (symbol_at b bytes)) (text_sound (text_from b Plain bytes))
     (either P (b == 96) (quoted_at (up_to 96 bytes)) (symbol_at b bytes) (quoted_sound (up_to 96 bytes)) (symbol_sound b bytes))))
 
@@ -255,39 +260,41 @@ skipped_sound : (o : Option (List ℕ)) → Found (skipped o).0
 skipped_sound None = tt
 skipped_sound (Some rest) = tt
 
-lexeme_sound : (bytes : List ℕ) → Found (lexeme_at bytes).0
-lexeme_sound [] = tt
-lexeme_sound (b ∷ bytes) =
+lexeme_sound : (operand : Bool) (bytes : List ℕ) → Found (lexeme_at operand bytes).0
+lexeme_sound operand [] = tt
+lexeme_sound operand (b ∷ bytes) =
     let P : Option Token × List ℕ → Type 0 = λ r. Found r.0 in
-    either P (is_blank b) (None, bytes) (cond (b == 47 && starts 42 bytes) (skipped (comment_at (rest_of bytes))) (cond (begins_name b) (seen (word_at (b ∷ bytes))) (cond (is_ascii_digit b) (seen (digits_at (b ∷ bytes))) (seen (other_at b bytes))))) tt
-    (either P (b == 47 && starts 42 bytes) (skipped (comment_at (rest_of bytes))) (cond (begins_name b) (seen (word_at (b ∷ bytes))) (cond (is_ascii_digit b) (seen (digits_at (b ∷ bytes))) (seen (other_at b bytes)))) (skipped_sound (comment_at (rest_of bytes)))
-    (either P (begins_name b) (seen (word_at (b ∷ bytes))) (cond (is_ascii_digit b) (seen (digits_at (b ∷ bytes))) (seen (other_at b bytes))) (word_sound (keyword_of (run continues_name (b ∷ bytes)).0) (run continues_name (b ∷ bytes)).0)
-    (either P (is_ascii_digit b) (seen (digits_at (b ∷ bytes))) (seen (other_at b bytes)) (digits_sound (value_after 0 (run is_ascii_digit (b ∷ bytes)).0)) (other_sound b bytes))))
+    either P (is_blank b) (None, bytes) (cond (b == 47 && starts 42 bytes) (skipped (comment_at (rest_of bytes))) (cond (begins_name b) (seen (word_at (b ∷ bytes))) (cond (is_ascii_digit b) (seen (digits_at (b ∷ bytes))) (seen (other_at operand b bytes))))) tt
+    (either P (b == 47 && starts 42 bytes) (skipped (comment_at (rest_of bytes))) (cond (begins_name b) (seen (word_at (b ∷ bytes))) (cond (is_ascii_digit b) (seen (digits_at (b ∷ bytes))) (seen (other_at operand b bytes)))) (skipped_sound (comment_at (rest_of bytes)))
+    (either P (begins_name b) (seen (word_at (b ∷ bytes))) (cond (is_ascii_digit b) (seen (digits_at (b ∷ bytes))) (seen (other_at operand b bytes))) (word_sound (keyword_of (run continues_name (b ∷ bytes)).0) (run continues_name (b ∷ bytes)).0)
+    (either P (is_ascii_digit b) (seen (digits_at (b ∷ bytes))) (seen (other_at operand b bytes)) (digits_sound (value_after 0 (run is_ascii_digit (b ∷ bytes)).0)) (other_sound operand b bytes))))
 
 -- STEPS
 
 abbrev values : List Placed → List Token
 values found = map (λ (p : Placed). p.0) found
 
-placed_sound : (left : ℕ) (touching : Bool) (o : Option Token) (rest : List ℕ) → Found o → Sounds (values (placed left touching (o, rest)).0)
-placed_sound left touching None rest h = tt
-placed_sound left touching (Some t) rest h = (h, tt)
+placed_sound : (left : ℕ) (before : Before) (o : Option Token) (rest : List ℕ) → Found o → Sounds (values (placed left before (o, rest)).0)
+placed_sound left before None rest h = tt
+placed_sound left before (Some t) rest h = (h, tt)
 
-step_sound : (touching : Bool) (bytes : List ℕ) → Sounds (values (step_at touching bytes).0)
-step_sound touching [] = tt
-step_sound touching (b ∷ bytes) =
-    either (λ (s : Step). Sounds (values s.0)) (touching && continues_name b) ((tokens.Bad, length (b ∷ bytes)) ∷ [], None) (placed (length (b ∷ bytes)) (continues_name b) (lexeme_at (b ∷ bytes))) (tt, tt)
-    (placed_sound (length (b ∷ bytes)) (continues_name b) (lexeme_at (b ∷ bytes)).0 (lexeme_at (b ∷ bytes)).1 (lexeme_sound (b ∷ bytes)))
+step_sound : (before : Before) (bytes : List ℕ) → Sounds (values (step_at before bytes).0)
+step_sound before [] = tt
+step_sound before (b ∷ bytes) =
+    let next : Before = record { touching = continues_name b; operand = before.operand } in
+    let found : Option Token × List ℕ = lexeme_at before.operand (b ∷ bytes) in
+    either (λ (s : Step). Sounds (values s.0)) (before.touching && continues_name b) ((tokens.Bad, length (b ∷ bytes)) ∷ [], None) (placed (length (b ∷ bytes)) next found) (tt, tt)
+    (placed_sound (length (b ∷ bytes)) next found.0 found.1 (lexeme_sound before.operand (b ∷ bytes)))
 
-onward_sound : (again : Bool → List ℕ → List Placed) (s : Step) → Sounds (values s.0) → ((touching : Bool) (bytes : List ℕ) → Sounds (values (again touching bytes))) → Sounds (values (onward again s))
+onward_sound : (again : Before → List ℕ → List Placed) (s : Step) → Sounds (values s.0) → ((before : Before) (bytes : List ℕ) → Sounds (values (again before bytes))) → Sounds (values (onward again s))
 onward_sound again (found, None) h k = h
 onward_sound again (found, Some next) h k =
     subst Sounds (sym (map-append (λ (p : Placed). p.0) found (again next.0 next.1))) (sounds_both (values found) (values (again next.0 next.1)) h (k next.0 next.1))
 
-within_sound : (n : ℕ) (touching : Bool) (bytes : List ℕ) → Sounds (values (tokens_within n touching bytes))
-within_sound zero touching bytes = tt
-within_sound (suc n) touching bytes = onward_sound (tokens_within n) (step_at touching bytes) (step_sound touching bytes) (within_sound n)
+within_sound : (n : ℕ) (before : Before) (bytes : List ℕ) → Sounds (values (tokens_within n before bytes))
+within_sound zero before bytes = tt
+within_sound (suc n) before bytes = onward_sound (tokens_within n) (step_at before bytes) (step_sound before bytes) (within_sound n)
 
 pub tokens_sound : (text : List ℕ) → Sounds (tokens_of text)
 unfolding tokens_of placed_tokens
-tokens_sound text = within_sound (length text) false text
+tokens_sound text = within_sound (length text) at_start text

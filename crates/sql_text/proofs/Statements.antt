@@ -12,14 +12,11 @@ use Rattle.sql_text.specs.Reading.{body_at, statement_at}
 use Rattle.sql_text.specs.Places.{IsFirstBad}
 use Rattle.sql_text.specs.Parsing.{parsed, IsParsed, IsNoStatement}
 use Rattle.sql_text.proofs.Parses as parses
-use Rattle.sql_text.proofs.ReadRules.{whole_field}
+use Rattle.sql_text.proofs.StatementRules.{firsts, furthers as parts_further, whole_field}
 use Rattle.sql_text.proofs.Wholes as wholes
 
-abbrev firsts : List ℕ
-firsts = 5 ∷ 10 ∷ []
-
 abbrev furthers : List ℕ
-furthers = 18 ∷ 15 ∷ 12 ∷ 9 ∷ 0 ∷ 1 ∷ 100 ∷ 16 ∷ []
+furthers = 18 ∷ parts_further
 
 is_read : (text : List ℕ) (s : Statement) → statement_at most_openings (tokens_of text) ≡ Ok s → IsStatement (tokens_of text) s
 unfolding statement_at

@@ -11,16 +11,22 @@ use Rattle.sql_values.specs.declared.tree.Operand.{Operand}
 use Rattle.sql_values.specs.declared.tree.Operand.TheVariants as operands
 use Rattle.sql_values.specs.declared.tree.Cond.{Cond}
 use Rattle.sql_values.specs.declared.tree.Cond.TheVariants as conds
+use Rattle.sql_values.specs.declared.tree.Expr.{Expr}
+use Rattle.sql_values.specs.declared.tree.Expr.TheVariants as exprs
+use Rattle.sql_values.specs.declared.tree.Addend.{Addend, roll-Addend}
+use Rattle.sql_values.specs.declared.places.LockMode.{LockMode}
+use Rattle.sql_values.specs.declared.places.LockMode.TheVariants as locks
 use Rattle.sql_text.specs.declared.statement.Statement.{Statement}
 use Rattle.sql_text.specs.declared.statement.Statement.TheVariants as statements
 use Rattle.sql_text.specs.declared.statement.SelectItems.{SelectItems}
 use Rattle.sql_text.specs.declared.statement.SelectItems.TheVariants as items
 use Rattle.sql_text.specs.declared.statement.Item.{Item}
 use Rattle.sql_text.specs.declared.statement.Tab.{Tab}
-use Rattle.sql_text.specs.declared.token.Fixed.TheVariants.{And, As, Between, From, In, Insert, Into, Not, Null, Or, Select, Values, Where, Open, Close, Comma, Dot, Star, Semicolon, Equal, NotEqual, Less, AtMost, Greater, AtLeast}
+use Rattle.sql_text.specs.declared.statement.Assignment.{Assignment}
+use Rattle.sql_text.specs.declared.token.Fixed.TheVariants.{And, As, Between, Delete, For, From, In, Insert, Into, Lock, Mode, Not, Null, Or, Select, Set, Share, Update, Values, Where, Open, Close, Comma, Dot, Star, Plus, Minus, Semicolon, Equal, NotEqual, Less, AtMost, Greater, AtLeast}
 use Rattle.sql_text.specs.declared.token.Token.{Token}
 use Rattle.sql_text.specs.declared.token.Token.TheVariants as tokens
-use Rattle.sql_text.specs.Rules.{Rule, is, one, ◌⊳◌, ◌▷◌, ◌∣◌, optional, series, at_most_further, parenthesized}
+use Rattle.sql_text.specs.Rules.{Rule, is, one, ◌⊳◌, ◌▷◌, ◌∣◌, optional, many, series, at_most_further, parenthesized}
 
 -- THE VALUES OF SINGLE TOKENS
 
@@ -44,6 +50,12 @@ comparison_of (tokens.Fixed AtMost) = Some comparisons.AtMost
 comparison_of (tokens.Fixed Greater) = Some comparisons.Greater
 comparison_of (tokens.Fixed AtLeast) = Some comparisons.AtLeast
 comparison_of _ = None
+
+-- the sign between two parts of a sum: whether what stands behind it is subtracted
+abbrev pub sign_of : Token → Option Bool
+sign_of (tokens.Fixed Plus) = Some false
+sign_of (tokens.Fixed Minus) = Some true
+sign_of _ = None
 
 -- the word `spider` as it is written
 abbrev pub is_spider : Token → Bool
@@ -99,7 +111,7 @@ abbrev pub comparison : ℕ → Rule Cond
 comparison depth = compared ∣ listed depth ∣ ranged
 
 -- several parts are one node, one part alone is that part
-abbrev pub joined : (List Cond → Cond) → List Cond → Cond
+abbrev pub joined : {X : Type 0} → (List X → X) → List X → X
 joined node (c ∷ []) = c
 joined node parts = node parts
 
@@ -121,6 +133,42 @@ neg (suc depth) c ts =
 
 abbrev pub cond : ℕ → Rule Cond
 cond depth = cond_over (neg depth)
+
+-- EXPRESSIONS
+
+abbrev pub plain_expr : Rule Expr
+plain_expr = (literal ▷ λ l. is (exprs.Literal l)) ∣ (column ▷ λ c. is (exprs.Column c))
+
+-- term = factor {"*" factor}
+abbrev pub term_over : Rule Expr → Rule Expr
+term_over factor = series Star factor ▷ λ parts. is (joined exprs.Product parts)
+
+-- a part of a sum, with its sign
+abbrev pub addend : Bool → Expr → Addend
+addend subtracted e = roll-Addend (record { subtracted = subtracted; expr = e })
+
+-- a further part of a sum, behind its sign
+abbrev pub addend_over : Rule Expr → Rule Addend
+addend_over term = one sign_of ▷ λ subtracted. term ▷ λ e. is (addend subtracted e)
+
+-- several parts are one node, of which the first is added; one part alone is that part
+abbrev pub summed : Expr → List Addend → Expr
+summed first [] = first
+summed first others = exprs.Sum (addend false first ∷ others)
+
+-- expr = term {("+" | "-") term}
+abbrev pub expr_over : Rule Expr → Rule Expr
+expr_over factor = term_over factor ▷ λ first. many (addend_over (term_over factor)) ▷ λ others. is (summed first others)
+
+-- factor = literal | column | "-" factor | "(" expr ")"
+-- Each minus of a factor and each parenthesis is an opening, of which at most so many stand inside one another
+unfoldable pub factor : ℕ → Rule Expr
+factor zero e ts = plain_expr e ts
+factor (suc depth) e ts =
+    ((Minus ⊳ (factor depth ▷ λ part. is (exprs.Negated part))) ∣ (Open ⊳ (expr_over (factor depth) ▷ λ part. Close ⊳ is part)) ∣ plain_expr) e ts
+
+abbrev pub expr : ℕ → Rule Expr
+expr depth = expr_over (factor depth)
 
 -- STATEMENTS
 
@@ -152,13 +200,39 @@ tab = table ▷ λ t. alias ▷ λ a. is (record { table = t; alias = a })
 abbrev pub where_cond : ℕ → Rule (Option Cond)
 where_cond depth = (Where ⊳ (cond depth ▷ λ c. is (Some c))) ∣ is None
 
--- select = SELECT items FROM tab [WHERE cond]
-abbrev pub select : ℕ → Rule Statement
-select depth = Select ⊳ (select_items ▷ λ i. From ⊳ (tab ▷ λ t. where_cond depth ▷ λ c. is (statements.Select (record { items = i; tab = t; cond = c }))))
+-- lock = LOCK IN SHARE MODE | FOR UPDATE
+abbrev pub lock : Rule LockMode
+lock = (Lock ⊳ (In ⊳ (Share ⊳ (Mode ⊳ is locks.Shared)))) ∣ (For ⊳ (Update ⊳ is locks.Exclusive))
 
--- statement = (insert | select) [";"]
+abbrev pub locked : Rule (Option LockMode)
+locked = (lock ▷ λ m. is (Some m)) ∣ is None
+
+-- select = SELECT items FROM tab [WHERE cond] [lock]
+abbrev pub select : ℕ → Rule Statement
+select depth =
+    Select ⊳ (select_items ▷ λ i. From ⊳ (tab ▷ λ t. where_cond depth ▷ λ c. locked ▷ λ m.
+    is (statements.Select (record { items = i; tab = t; cond = c; lock = m }))))
+
+-- name "=" expr
+abbrev pub assignment : ℕ → Rule Assignment
+assignment depth = name ▷ λ n. Equal ⊳ (expr depth ▷ λ e. is (record { column = n; value = e }))
+
+-- update = UPDATE table SET name "=" expr {"," name "=" expr} [WHERE cond]
+abbrev pub update : ℕ → Rule Statement
+update depth =
+    Update ⊳ (table ▷ λ t. Set ⊳ (series Comma (assignment depth) ▷ λ l. where_cond depth ▷ λ c.
+    is (statements.Update (record { table = t; sets = l; cond = c }))))
+
+-- delete = DELETE FROM table [WHERE cond]
+abbrev pub delete : ℕ → Rule Statement
+delete depth = Delete ⊳ (From ⊳ (table ▷ λ t. where_cond depth ▷ λ c. is (statements.Delete (record { table = t; cond = c }))))
+
+abbrev pub body : ℕ → Rule Statement
+body depth = insert depth ∣ select depth ∣ update depth ∣ delete depth
+
+-- statement = (insert | select | update | delete) [";"]
 abbrev pub statement : ℕ → Rule Statement
-statement depth = (insert depth ∣ select depth) ▷ λ s. optional Semicolon ▷ λ _. is s
+statement depth = body depth ▷ λ s. optional Semicolon ▷ λ _. is s
 
 -- how many openings may stand inside one another
 abbrev pub most_openings : ℕ

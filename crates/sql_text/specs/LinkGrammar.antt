@@ -3,21 +3,19 @@ use Rattle.std.specs.Prelude.{ℕ, ℤ, pos, negsuc, ◌^◌, ◌==◌, List, �
 use Rattle.sql_values.specs.declared.value.Value.{Value}
 use Rattle.sql_values.specs.declared.value.Value.TheVariants as values
 use Rattle.sql_values.specs.declared.places.Xid.{Xid}
-use Rattle.sql_values.specs.declared.places.LockMode.{LockMode}
-use Rattle.sql_values.specs.declared.places.LockMode.TheVariants as locks
 use Rattle.sql_text.specs.declared.link.LinkRequest.{LinkRequest}
 use Rattle.sql_text.specs.declared.link.LinkRequest.TheVariants as requests
 use Rattle.sql_text.specs.declared.link.ScanItems.{ScanItems}
 use Rattle.sql_text.specs.declared.link.ScanItems.TheVariants as scanned
 use Rattle.sql_text.specs.declared.link.AggregateCall.{AggregateCall}
 use Rattle.sql_text.specs.declared.link.AggregateCall.TheVariants as calls
-use Rattle.sql_text.specs.declared.token.Fixed.TheVariants.{And, Between, From, In, Into, Select, Values, Where, Comma, Star, Semicolon, By, Commit, Count, Delete, End, For, Limit, Lock, Max, Min, Mode, Order, Prepare, Recover, Replace, Rollback, Share, Start, Sum, Update, Xa}
+use Rattle.sql_text.specs.declared.token.Fixed.TheVariants.{And, Between, Delete, From, In, Into, Select, Values, Where, Comma, Star, Semicolon, By, Commit, Count, End, Limit, Max, Min, Order, Prepare, Recover, Replace, Rollback, Start, Sum, Xa}
 use Rattle.sql_text.specs.declared.token.Token.{Token}
 use Rattle.sql_text.specs.declared.token.Token.TheVariants as tokens
 use Rattle.sql_text.specs.Rules.{Rule, is, one, ◌⊳◌, ◌▷◌, ◌∣◌, optional, series, at_most_further, parenthesized}
 use Rattle.sql_values.specs.declared.tree.ColumnName.{ColumnName}
 use Rattle.sql_values.specs.Expressions.{big_int}
-use Rattle.sql_text.specs.Grammar.{name, column, where_cond}
+use Rattle.sql_text.specs.Grammar.{name, column, where_cond, lock}
 
 -- THE VALUES OF SINGLE TOKENS
 
@@ -96,10 +94,6 @@ order (scanned.Aggregates l) = is None
 -- limit = [LIMIT digits]
 abbrev pub limit : Rule (Option ℕ)
 limit = (Limit ⊳ (one count_of ▷ λ n. is (Some n))) ∣ is None
-
--- lock = LOCK IN SHARE MODE | FOR UPDATE
-abbrev pub lock : Rule LockMode
-lock = (Lock ⊳ (In ⊳ (Share ⊳ (Mode ⊳ is locks.Shared)))) ∣ (For ⊳ (Update ⊳ is locks.Exclusive))
 
 -- scan = SELECT items FROM name [WHERE cond] order limit lock
 abbrev pub scan : ℕ → Rule LinkRequest

@@ -4,15 +4,13 @@ use Rattle.std.specs.Fmt.{signed_decimal}
 use Rattle.sql_values.specs.declared.value.Value.{Value}
 use Rattle.sql_values.specs.declared.value.Value.TheVariants as values
 use Rattle.sql_values.specs.declared.places.Xid.{Xid}
-use Rattle.sql_values.specs.declared.places.LockMode.{LockMode}
-use Rattle.sql_values.specs.declared.places.LockMode.TheVariants as locks
 use Rattle.sql_text.specs.declared.link.LinkRequest.{LinkRequest}
 use Rattle.sql_text.specs.declared.link.LinkRequest.TheVariants as requests
 use Rattle.sql_text.specs.declared.link.ScanItems.{ScanItems}
 use Rattle.sql_text.specs.declared.link.ScanItems.TheVariants as scanned
 use Rattle.sql_text.specs.declared.link.AggregateCall.{AggregateCall}
 use Rattle.sql_text.specs.declared.link.AggregateCall.TheVariants as calls
-use Rattle.sql_text.specs.Printing.{quoted, name_text, joined_text, column_text, where_text}
+use Rattle.sql_text.specs.Printing.{quoted, name_text, joined_text, column_text, where_text, lock_text}
 
 -- the name of a branch, with the format 1
 abbrev pub xid_text : Xid → List ℕ
@@ -42,10 +40,6 @@ order_text (Some k) = codes " ORDER BY " ++ name_text k
 abbrev pub limit_text : Option ℕ → List ℕ
 limit_text None = []
 limit_text (Some n) = codes " LIMIT " ++ signed_decimal (pos n)
-
-abbrev pub lock_text : LockMode → List ℕ
-lock_text locks.Shared = codes " LOCK IN SHARE MODE"
-lock_text locks.Exclusive = codes " FOR UPDATE"
 
 -- the canonical text
 unfoldable pub link_printed : LinkRequest → List ℕ

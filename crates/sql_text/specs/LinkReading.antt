@@ -3,18 +3,16 @@ use Rattle.std.specs.Prelude.{ℕ, ℤ, List, [], ◌∷◌, Option, Some, None,
 use Rattle.sql_values.specs.declared.tree.ColumnName.{ColumnName}
 use Rattle.sql_values.specs.declared.value.Value.{Value}
 use Rattle.sql_values.specs.declared.places.Xid.{Xid}
-use Rattle.sql_values.specs.declared.places.LockMode.{LockMode}
-use Rattle.sql_values.specs.declared.places.LockMode.TheVariants as locks
 use Rattle.sql_text.specs.declared.link.LinkRequest.{LinkRequest}
 use Rattle.sql_text.specs.declared.link.LinkRequest.TheVariants as requests
 use Rattle.sql_text.specs.declared.link.ScanItems.{ScanItems}
 use Rattle.sql_text.specs.declared.link.ScanItems.TheVariants as scanned
 use Rattle.sql_text.specs.declared.link.AggregateCall.{AggregateCall}
 use Rattle.sql_text.specs.declared.link.AggregateCall.TheVariants as calls
-use Rattle.sql_text.specs.declared.token.Fixed.TheVariants.{And, Between, From, In, Into, Select, Values, Where, Comma, Star, Semicolon, By, Commit, Count, Delete, End, For, Limit, Lock, Max, Min, Mode, Order, Prepare, Recover, Replace, Rollback, Share, Start, Sum, Update, Xa}
+use Rattle.sql_text.specs.declared.token.Fixed.TheVariants.{And, Between, Delete, From, In, Into, Select, Values, Where, Comma, Star, Semicolon, By, Commit, Count, End, Limit, Max, Min, Order, Prepare, Recover, Replace, Rollback, Start, Sum, Xa}
 use Rattle.sql_text.specs.declared.token.Token.{Token}
 use Rattle.sql_text.specs.declared.fault.Stop.{Stop}
-use Rattle.sql_text.specs.Reading.{◌>>=◌, begins, behind, expect, optional_at, one_at, name_at, column_at, where_at, series_at, further_at, with_front, parenthesized_at, ended}
+use Rattle.sql_text.specs.Reading.{◌>>=◌, begins, behind, expect, optional_at, one_at, name_at, column_at, where_at, lock_at, series_at, further_at, with_front, parenthesized_at, ended}
 use Rattle.sql_text.specs.LinkGrammar.{key_of, value_of, count_of, part_of, format_of}
 
 -- ---- branches
@@ -68,15 +66,6 @@ order_at (scanned.Aggregates l) ts = Ok (None, ts)
 
 unfoldable pub limit_at : List Token → Result (Option ℕ × List Token) Stop
 limit_at ts = if begins Limit ts then (one_at count_of (behind ts) >>= λ n. Ok (Some n.0, n.1)) else Ok (None, ts)
-
-unfoldable pub share_at : List Token → Result (LockMode × List Token) Stop
-share_at ts = expect In ts >>= λ rest. expect Share rest >>= λ rest. expect Mode rest >>= λ rest. Ok (locks.Shared, rest)
-
-unfoldable pub update_at : List Token → Result (LockMode × List Token) Stop
-update_at ts = expect For ts >>= λ rest. expect Update rest >>= λ rest. Ok (locks.Exclusive, rest)
-
-unfoldable pub lock_at : List Token → Result (LockMode × List Token) Stop
-lock_at ts = if begins Lock ts then share_at (behind ts) else update_at ts
 
 unfoldable pub scan_at : ℕ → List Token → Result (LinkRequest × List Token) Stop
 scan_at depth ts =

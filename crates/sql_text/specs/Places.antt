@@ -1,14 +1,15 @@
 -- Where tokens stop being a text of a rule.
 use Rattle.std.specs.Prelude.{◌≡◌, ℕ, suc, Bool, true, false, List, [], ◌∷◌, ◌++◌, length}
-use Rattle.sql_text.specs.declared.token.Fixed.TheVariants.{Not, Open}
+use Rattle.sql_text.specs.declared.token.Fixed.TheVariants.{Not, Open, Minus}
 use Rattle.sql_text.specs.declared.token.Token.{Token}
 use Rattle.sql_text.specs.declared.token.Token.TheVariants as tokens
 use Rattle.sql_text.specs.Rules.{Rule}
 
--- a token that opens: a parenthesis of any use, or NOT
+-- a token that opens: a parenthesis of any use, NOT, or the minus of a factor
 abbrev pub is_opening : Token → Bool
 is_opening (tokens.Fixed Open) = true
 is_opening (tokens.Fixed Not) = true
+is_opening (tokens.Fixed Minus) = true
 is_opening _ = false
 
 -- a text of the rule begins with these tokens, with at most so many openings inside one another

@@ -11,11 +11,18 @@ use Rattle.sql_values.specs.declared.tree.Operand.{Operand}
 use Rattle.sql_values.specs.declared.tree.Operand.TheVariants as operands
 use Rattle.sql_values.specs.declared.tree.Cond.{Cond, Cond-F, fold-Cond}
 use Rattle.sql_values.specs.declared.tree.Cond.TheOpen.{All, Any, Not, Compare, In, Between}
+use Rattle.sql_values.specs.declared.tree.Expr.{Expr, Expr-F}
+use Rattle.sql_values.specs.declared.tree.Expr.TheFolds.{fold-Expr}
+use Rattle.sql_values.specs.declared.tree.Expr.TheOpen as exprs
+use Rattle.sql_values.specs.declared.tree.Addend.{Addend, Addend-F, fold-Addend}
+use Rattle.sql_values.specs.declared.places.LockMode.{LockMode}
+use Rattle.sql_values.specs.declared.places.LockMode.TheVariants as locks
 use Rattle.sql_text.specs.declared.statement.Statement.{Statement}
 use Rattle.sql_text.specs.declared.statement.Statement.TheVariants as statements
 use Rattle.sql_text.specs.declared.statement.SelectItems.{SelectItems}
 use Rattle.sql_text.specs.declared.statement.SelectItems.TheVariants as items
 use Rattle.sql_text.specs.declared.statement.Item.{Item}
+use Rattle.sql_text.specs.declared.statement.Assignment.{Assignment}
 
 -- a byte of a text, as it stands in a literal
 abbrev pub escaped : ℕ → List ℕ
@@ -73,7 +80,7 @@ negation_text false = []
 abbrev pub literals_text : List Literal → List ℕ
 literals_text ls = joined_text (codes ",") (map literal_text ls)
 
--- how loosely a condition binds, and its text: 0 a test or a NOT, 1 parts joined by AND, 2 parts joined by OR
+-- how loosely a condition or an expression binds, and its text: 0 a test or a NOT, 1 parts joined by AND, 2 parts joined by OR; 0 a factor, 1 a product, 2 a sum
 abbrev pub Shown : Type 0
 Shown = ℕ × List ℕ
 
@@ -101,6 +108,39 @@ shown_cond = fold-Cond Shown layer_text
 abbrev pub cond_text : Cond → List ℕ
 cond_text c = at_level 2 (shown_cond c)
 
+-- the sign between two parts of a sum
+abbrev pub sign_text : Bool → List ℕ
+sign_text true = codes " - "
+sign_text false = codes " + "
+
+-- a part of a sum, behind its sign unless it is the first
+abbrev pub part_text : Bool → Bool × Shown → List ℕ
+part_text false part = at_level 1 part.1
+part_text true part = sign_text part.0 ++ at_level 1 part.1
+
+abbrev pub sum_text : List (Bool × Shown) → List ℕ
+sum_text [] = []
+sum_text (first ∷ others) = part_text false first ++ flat_map (part_text true) others
+
+abbrev pub expr_layer_text : Expr-F Shown (Bool × Shown) → Shown
+expr_layer_text (exprs.Literal l) = (0, literal_text l)
+expr_layer_text (exprs.Column c) = (0, column_text c)
+expr_layer_text (exprs.Negated part) = (0, codes "- " ++ at_level 0 part)
+expr_layer_text (exprs.Sum parts) = (2, sum_text parts)
+expr_layer_text (exprs.Product parts) = (1, joined_text (codes " * ") (map (at_level 0) parts))
+
+abbrev pub addend_layer_text : Addend-F Shown (Bool × Shown) → Bool × Shown
+addend_layer_text part = (part.subtracted, part.expr)
+
+abbrev pub shown_expr : Expr → Shown
+shown_expr = fold-Expr Shown (Bool × Shown) expr_layer_text addend_layer_text
+
+abbrev pub shown_addend : Addend → Bool × Shown
+shown_addend = fold-Addend Shown (Bool × Shown) expr_layer_text addend_layer_text
+
+abbrev pub expr_text : Expr → List ℕ
+expr_text e = at_level 2 (shown_expr e)
+
 abbrev pub alias_text : Option (List ℕ) → List ℕ
 alias_text None = []
 alias_text (Some n) = codes " AS " ++ name_text n
@@ -123,7 +163,20 @@ columns_text (Some l) = codes " (" ++ (joined_text (codes ", ") (map name_text l
 abbrev pub tuple_text : List Literal → List ℕ
 tuple_text ls = codes "(" ++ (literals_text ls ++ codes ")")
 
+abbrev pub lock_text : LockMode → List ℕ
+lock_text locks.Shared = codes " LOCK IN SHARE MODE"
+lock_text locks.Exclusive = codes " FOR UPDATE"
+
+abbrev pub locked_text : Option LockMode → List ℕ
+locked_text None = []
+locked_text (Some m) = lock_text m
+
+abbrev pub assignment_text : Assignment → List ℕ
+assignment_text a = name_text a.column ++ (codes " = " ++ expr_text a.value)
+
 -- the canonical text
 unfoldable pub printed : Statement → List ℕ
 printed (statements.Insert i) = codes "INSERT INTO " ++ (name_text i.table ++ (columns_text i.columns ++ (codes " VALUES " ++ joined_text (codes ",") (map tuple_text i.rows))))
-printed (statements.Select s) = codes "SELECT " ++ (items_text s.items ++ (codes " FROM " ++ (name_text s.tab.table ++ (alias_text s.tab.alias ++ where_text s.cond))))
+printed (statements.Select s) = codes "SELECT " ++ (items_text s.items ++ (codes " FROM " ++ (name_text s.tab.table ++ (alias_text s.tab.alias ++ (where_text s.cond ++ locked_text s.lock)))))
+printed (statements.Update u) = codes "UPDATE " ++ (name_text u.table ++ (codes " SET " ++ (joined_text (codes ", ") (map assignment_text u.sets) ++ where_text u.cond)))
+printed (statements.Delete d) = codes "DELETE FROM " ++ (name_text d.table ++ where_text d.cond)

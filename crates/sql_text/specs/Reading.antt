@@ -1,25 +1,31 @@
 -- Reading tokens from left to right: what stands at the front, and the tokens behind it, or where reading stops.
-use Rattle.std.specs.Prelude.{◌≡◌, ◌++◌, ℕ, zero, suc, ◌==◌, Bool, true, false, List, [], ◌∷◌, length, Option, Some, None, Result, Ok, Err, is_some, option_map, if◌then◌else◌}
+use Rattle.std.specs.Prelude.{◌≡◌, ◌++◌, ℕ, zero, suc, ◌==◌, ◌||◌, Bool, true, false, List, [], ◌∷◌, length, Option, Some, None, Result, Ok, Err, is_some, option_map, if◌then◌else◌}
 use Rattle.sql_values.specs.declared.literal.Literal.{Literal}
 use Rattle.sql_values.specs.declared.tree.ColumnName.{ColumnName}
 use Rattle.sql_values.specs.declared.tree.Operand.{Operand}
 use Rattle.sql_values.specs.declared.tree.Operand.TheVariants as operands
 use Rattle.sql_values.specs.declared.tree.Cond.{Cond}
 use Rattle.sql_values.specs.declared.tree.Cond.TheVariants as conds
+use Rattle.sql_values.specs.declared.tree.Expr.{Expr}
+use Rattle.sql_values.specs.declared.tree.Expr.TheVariants as exprs
+use Rattle.sql_values.specs.declared.tree.Addend.{Addend}
+use Rattle.sql_values.specs.declared.places.LockMode.{LockMode}
+use Rattle.sql_values.specs.declared.places.LockMode.TheVariants as locks
 use Rattle.sql_text.specs.declared.statement.Statement.{Statement}
 use Rattle.sql_text.specs.declared.statement.Statement.TheVariants as statements
 use Rattle.sql_text.specs.declared.statement.SelectItems.{SelectItems}
 use Rattle.sql_text.specs.declared.statement.SelectItems.TheVariants as items
 use Rattle.sql_text.specs.declared.statement.Item.{Item}
 use Rattle.sql_text.specs.declared.statement.Tab.{Tab}
+use Rattle.sql_text.specs.declared.statement.Assignment.{Assignment}
 use Rattle.sql_text.specs.declared.token.Fixed.{Fixed}
-use Rattle.sql_text.specs.declared.token.Fixed.TheVariants.{And, As, Between, From, In, Insert, Into, Not, Null, Or, Select, Values, Where, Open, Close, Comma, Dot, Star, Semicolon, Equal, NotEqual, Less, AtMost, Greater, AtLeast, By, Commit, Count, Delete, End, For, Limit, Lock, Max, Min, Mode, Order, Prepare, Recover, Replace, Rollback, Share, Start, Sum, Update, Xa}
+use Rattle.sql_text.specs.declared.token.Fixed.TheVariants.{And, As, Between, Delete, For, From, In, Insert, Into, Lock, Mode, Not, Null, Or, Select, Set, Share, Update, Values, Where, By, Commit, Count, End, Limit, Max, Min, Order, Prepare, Recover, Replace, Rollback, Start, Sum, Xa, Open, Close, Comma, Dot, Star, Plus, Minus, Semicolon, Equal, NotEqual, Less, AtMost, Greater, AtLeast}
 use Rattle.sql_text.specs.declared.token.Token.{Token}
 use Rattle.sql_text.specs.declared.token.Token.TheVariants as tokens
 use Rattle.sql_text.specs.declared.fault.Stop.{Stop}
 use Rattle.sql_text.specs.declared.fault.ReadError.{ReadError}
 use Rattle.sql_text.specs.declared.fault.ReadError.TheVariants as errors
-use Rattle.sql_text.specs.Grammar.{name_of, literal_of, comparison_of, is_spider, joined}
+use Rattle.sql_text.specs.Grammar.{name_of, literal_of, comparison_of, sign_of, is_spider, joined, addend}
 
 -- FAULTS AND STEPS
 
@@ -92,6 +98,9 @@ number_of Start = 42
 number_of Sum = 43
 number_of Update = 44
 number_of Xa = 45
+number_of Set = 46
+number_of Plus = 47
+number_of Minus = 48
 
 abbrev pub is_fixed : Fixed → Token → Bool
 is_fixed f (tokens.Fixed g) = number_of g == number_of f
@@ -135,11 +144,14 @@ optional_at f ts = if begins f ts then Ok (true, behind ts) else Ok (false, ts)
 abbrev pub with_front : {X : Type 0} → List X → Result (List X × List Token) Stop → Result (List X × List Token) Stop
 with_front front read = read >>= λ x. Ok (front ++ x.0, x.1)
 
+-- at most so many parts, one behind the other, each where the test finds that one begins
+abbrev pub many_at : {X : Type 0} → ℕ → (List Token → Bool) → (List Token → Result (X × List Token) Stop) → List Token → Result (List X × List Token) Stop
+many_at zero test part ts = Ok ([], ts)
+many_at (suc count) test part ts = if test ts then (part ts >>= λ x. with_front (x.0 ∷ []) (many_at count test part x.1)) else Ok ([], ts)
+
 -- at most so many further parts, each behind this symbol or keyword
 abbrev pub further_at : {X : Type 0} → ℕ → Fixed → (List Token → Result (X × List Token) Stop) → List Token → Result (List X × List Token) Stop
-further_at zero f part ts = Ok ([], ts)
-further_at (suc count) f part ts =
-    if begins f ts then (part (behind ts) >>= λ x. with_front (x.0 ∷ []) (further_at count f part x.1)) else Ok ([], ts)
+further_at count f part ts = many_at count (begins f) (λ rest. part (behind rest)) ts
 
 -- parts, with this between them; there are at most as many as tokens
 abbrev pub series_at : {X : Type 0} → Fixed → (List Token → Result (X × List Token) Stop) → List Token → Result (List X × List Token) Stop
@@ -231,6 +243,41 @@ neg_at (suc depth) ts =
 unfoldable pub cond_at : ℕ → List Token → Result (Cond × List Token) Stop
 cond_at depth ts = cond_by (neg_at depth) ts
 
+-- EXPRESSIONS
+
+unfoldable pub plain_at : List Token → Result (Expr × List Token) Stop
+plain_at ts =
+    if stands literal_of ts then (literal_at ts >>= λ l. Ok (exprs.Literal l.0, l.1))
+    else (column_at ts >>= λ c. Ok (exprs.Column c.0, c.1))
+
+abbrev pub term_by : (List Token → Result (Expr × List Token) Stop) → List Token → Result (Expr × List Token) Stop
+term_by factor ts = series_at Star factor ts >>= λ parts. Ok (joined exprs.Product parts.0, parts.1)
+
+abbrev pub addend_by : (List Token → Result (Expr × List Token) Stop) → List Token → Result (Addend × List Token) Stop
+addend_by factor ts = one_at sign_of ts >>= λ s. term_by factor s.1 >>= λ e. Ok (addend s.0 e.0, e.1)
+
+-- a sum, behind its first part
+abbrev pub sum_by : (List Token → Result (Expr × List Token) Stop) → Expr → List Token → Result (Expr × List Token) Stop
+sum_by factor first ts =
+    with_front (addend false first ∷ []) (many_at (length ts) (stands sign_of) (addend_by factor) ts) >>= λ parts. Ok (exprs.Sum parts.0, parts.1)
+
+abbrev pub expr_by : (List Token → Result (Expr × List Token) Stop) → List Token → Result (Expr × List Token) Stop
+expr_by factor ts = term_by factor ts >>= λ first. if stands sign_of first.1 then sum_by factor first.0 first.1 else Ok (first.0, first.1)
+
+-- an expression in parentheses, behind the first
+abbrev pub closed_expr_by : (List Token → Result (Expr × List Token) Stop) → List Token → Result (Expr × List Token) Stop
+closed_expr_by factor ts = expr_by factor ts >>= λ part. expect Close part.1 >>= λ rest. Ok (part.0, rest)
+
+unfoldable pub factor_at : ℕ → List Token → Result (Expr × List Token) Stop
+factor_at zero ts = if begins Minus ts then too_deep ts else (if begins Open ts then too_deep ts else plain_at ts)
+factor_at (suc depth) ts =
+    if begins Minus ts then (factor_at depth (behind ts) >>= λ part. Ok (exprs.Negated part.0, part.1))
+    else (if begins Open ts then closed_expr_by (factor_at depth) (behind ts)
+    else plain_at ts)
+
+unfoldable pub expr_at : ℕ → List Token → Result (Expr × List Token) Stop
+expr_at depth ts = expr_by (factor_at depth) ts
+
 -- STATEMENTS
 
 unfoldable pub column_list_at : ℕ → List Token → Result (Option (List (List ℕ)) × List Token) Stop
@@ -257,13 +304,42 @@ tab_at ts = table_at ts >>= λ t. alias_at t.1 >>= λ a. Ok (record { table = t.
 unfoldable pub where_at : ℕ → List Token → Result (Option Cond × List Token) Stop
 where_at depth ts = if begins Where ts then (cond_at depth (behind ts) >>= λ c. Ok (Some c.0, c.1)) else Ok (None, ts)
 
+unfoldable pub share_at : List Token → Result (LockMode × List Token) Stop
+share_at ts = expect In ts >>= λ rest. expect Share rest >>= λ rest. expect Mode rest >>= λ rest. Ok (locks.Shared, rest)
+
+unfoldable pub for_update_at : List Token → Result (LockMode × List Token) Stop
+for_update_at ts = expect For ts >>= λ rest. expect Update rest >>= λ rest. Ok (locks.Exclusive, rest)
+
+unfoldable pub lock_at : List Token → Result (LockMode × List Token) Stop
+lock_at ts = if begins Lock ts then share_at (behind ts) else for_update_at ts
+
+unfoldable pub locked_at : List Token → Result (Option LockMode × List Token) Stop
+locked_at ts = if begins Lock ts || begins For ts then (lock_at ts >>= λ m. Ok (Some m.0, m.1)) else Ok (None, ts)
+
 unfoldable pub select_at : ℕ → List Token → Result (Statement × List Token) Stop
 select_at depth ts =
-    expect Select ts >>= λ rest. select_items_at rest >>= λ i. expect From i.1 >>= λ rest. tab_at rest >>= λ t. where_at depth t.1 >>= λ c.
-    Ok (statements.Select (record { items = i.0; tab = t.0; cond = c.0 }), c.1)
+    expect Select ts >>= λ rest. select_items_at rest >>= λ i. expect From i.1 >>= λ rest. tab_at rest >>= λ t. where_at depth t.1 >>= λ c. locked_at c.1 >>= λ m.
+    Ok (statements.Select (record { items = i.0; tab = t.0; cond = c.0; lock = m.0 }), m.1)
+
+unfoldable pub assignment_at : ℕ → List Token → Result (Assignment × List Token) Stop
+assignment_at depth ts = name_at ts >>= λ n. expect Equal n.1 >>= λ rest. expr_at depth rest >>= λ e. Ok (record { column = n.0; value = e.0 }, e.1)
+
+unfoldable pub update_at : ℕ → List Token → Result (Statement × List Token) Stop
+update_at depth ts =
+    expect Update ts >>= λ rest. table_at rest >>= λ t. expect Set t.1 >>= λ rest. series_at Comma (assignment_at depth) rest >>= λ l. where_at depth l.1 >>= λ c.
+    Ok (statements.Update (record { table = t.0; sets = l.0; cond = c.0 }), c.1)
+
+unfoldable pub delete_at : ℕ → List Token → Result (Statement × List Token) Stop
+delete_at depth ts =
+    expect Delete ts >>= λ rest. expect From rest >>= λ rest. table_at rest >>= λ t. where_at depth t.1 >>= λ c.
+    Ok (statements.Delete (record { table = t.0; cond = c.0 }), c.1)
 
 unfoldable pub body_at : ℕ → List Token → Result (Statement × List Token) Stop
-body_at depth ts = if begins Insert ts then insert_at depth ts else select_at depth ts
+body_at depth ts =
+    if begins Insert ts then insert_at depth ts
+    else (if begins Select ts then select_at depth ts
+    else (if begins Update ts then update_at depth ts
+    else delete_at depth ts))
 
 -- what was read, where nothing stands behind it
 abbrev pub ended : {X : Type 0} → X → List Token → Result X Stop

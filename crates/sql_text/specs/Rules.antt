@@ -53,6 +53,11 @@ abbrev pub further : {X : Type 0} → Fixed → Rule X → Rule (List X)
 further {X} f A [] ts = ts ≡ []
 further {X} f A (x ∷ xs) ts = (rest : List Token) × (ts ≡ tokens.Fixed f ∷ rest) × Sequence (A x) (further f A xs) rest
 
+-- any number of parts, one behind the other
+abbrev pub many : {X : Type 0} → Rule X → Rule (List X)
+many {X} A [] ts = ts ≡ []
+many {X} A (x ∷ xs) ts = Sequence (A x) (many A xs) ts
+
 -- parts, with this between them
 abbrev pub series : {X : Type 0} → Fixed → Rule X → Rule (List X)
 series {X} f A = A ▷ λ x. further f A ▷ λ xs. is (x ∷ xs)

@@ -1,11 +1,12 @@
 -- The tokens of a text.
-use Rattle.std.specs.Prelude.{ℕ, zero, suc, ◌+◌, ◌-◌, ◌*◌, ◌^◌, ◌==◌, ◌&&◌, ◌||◌, Bool, true, false, pos, neg_ℤ, List, [], ◌∷◌, ◌++◌, length, map, Option, Some, None, if◌then◌else◌, nat_lt, nat_le, nat_eq, codes}
+use Rattle.std.specs.Prelude.{ℕ, zero, suc, ◌+◌, ◌-◌, ◌*◌, ◌^◌, ◌==◌, ◌&&◌, ◌||◌, not, Bool, true, false, pos, neg_ℤ, List, [], ◌∷◌, ◌++◌, length, map, Option, Some, None, if◌then◌else◌, nat_lt, nat_le, nat_eq, codes}
 use Rattle.std.specs.Cmp.Lexicographic.{pointwise}
 use Rattle.std.specs.Char.{is_ascii_digit, to_ascii_uppercase}
 use Rattle.std.specs.Str.Lossy.{utf8_lossy}
 use Rattle.sql_values.specs.Names.{is_name, begins_name, continues_name}
 use Rattle.sql_text.specs.declared.token.Fixed.{Fixed}
-use Rattle.sql_text.specs.declared.token.Fixed.TheVariants.{And, As, Between, From, In, Insert, Into, Not, Null, Or, Select, Values, Where, Open, Close, Comma, Dot, Star, Semicolon, Equal, NotEqual, Less, AtMost, Greater, AtLeast, By, Commit, Count, Delete, End, For, Limit, Lock, Max, Min, Mode, Order, Prepare, Recover, Replace, Rollback, Share, Start, Sum, Update, Xa}
+use Rattle.sql_text.specs.declared.token.Fixed.TheVariants.{And, As, Between, Delete, For, From, In, Insert, Into, Lock, Mode, Not, Null, Or, Select, Set, Share, Update, Values, Where, By, Commit, Count, End, Limit, Max, Min, Order, Prepare, Recover, Replace, Rollback, Start, Sum, Xa, Open, Close, Comma, Dot, Star, Plus, Minus, Semicolon, Equal, NotEqual, Less, AtMost, Greater, AtLeast}
+use Rattle.sql_text.specs.declared.token.Before.{Before}
 use Rattle.sql_text.specs.declared.token.Dialect.{Dialect}
 use Rattle.sql_text.specs.declared.token.Dialect.TheVariants.{Statements, Links}
 use Rattle.sql_text.specs.declared.token.Token.{Token}
@@ -17,8 +18,9 @@ use Rattle.sql_text.specs.declared.token.Token.TheVariants as tokens
 abbrev pub is_word : List ℕ → List ℕ → Bool
 is_word word bytes = pointwise nat_eq (map to_ascii_uppercase bytes) word
 
-abbrev pub keyword_of : List ℕ → Option Fixed
-keyword_of bytes =
+-- the keywords of INSERT, SELECT and conditions
+abbrev pub basic_word : List ℕ → Option Fixed
+basic_word bytes =
     if is_word (codes "AND") bytes then Some And
     else (if is_word (codes "AS") bytes then Some As
     else (if is_word (codes "BETWEEN") bytes then Some Between
@@ -33,6 +35,25 @@ keyword_of bytes =
     else (if is_word (codes "VALUES") bytes then Some Values
     else (if is_word (codes "WHERE") bytes then Some Where
     else None))))))))))))
+
+-- those of UPDATE, DELETE and the words of locks
+abbrev pub change_word : List ℕ → Option Fixed
+change_word bytes =
+    if is_word (codes "UPDATE") bytes then Some Update
+    else (if is_word (codes "SET") bytes then Some Set
+    else (if is_word (codes "DELETE") bytes then Some Delete
+    else (if is_word (codes "FOR") bytes then Some For
+    else (if is_word (codes "LOCK") bytes then Some Lock
+    else (if is_word (codes "SHARE") bytes then Some Share
+    else (if is_word (codes "MODE") bytes then Some Mode
+    else None))))))
+
+abbrev pub first_word : Option Fixed → Option Fixed → Option Fixed
+first_word None other = other
+first_word (Some f) other = Some f
+
+abbrev pub keyword_of : List ℕ → Option Fixed
+keyword_of bytes = first_word (basic_word bytes) (change_word bytes)
 
 -- a keyword, or a name of at most 64 bytes
 abbrev pub word_token : Option Fixed → List ℕ → Token
@@ -65,12 +86,17 @@ signed_token false n = if nat_lt n (2 ^ 127) then tokens.Signed (pos n) else tok
 abbrev pub digits_at : List ℕ → Token × List ℕ
 digits_at bytes = let r = run is_ascii_digit bytes in (digits_token (value_after 0 r.0), r.1)
 
--- a sign, with what stands behind it: digits, directly, or it is no token
-abbrev pub signed_at : Bool → List ℕ → Token × List ℕ
-signed_at minus [] = (tokens.Bad, [])
-signed_at minus (b ∷ bytes) =
-    if is_ascii_digit b then (let r = run is_ascii_digit (b ∷ bytes) in (signed_token minus (value_after 0 r.0), r.1))
-    else (tokens.Bad, bytes)
+-- a sign alone
+abbrev pub sign_token : Bool → Token
+sign_token true = tokens.Fixed Minus
+sign_token false = tokens.Fixed Plus
+
+-- a sign, with what stands behind it. Digits directly behind it are one token with it, except where an operand ends before it: there it is an operator
+abbrev pub signed_at : Bool → Bool → List ℕ → Token × List ℕ
+signed_at operand minus [] = (sign_token minus, [])
+signed_at operand minus (b ∷ bytes) =
+    if is_ascii_digit b && not operand then (let r = run is_ascii_digit (b ∷ bytes) in (signed_token minus (value_after 0 r.0), r.1))
+    else (sign_token minus, b ∷ bytes)
 
 -- TEXTS
 
@@ -172,7 +198,6 @@ comment_at bytes = if starts 33 bytes then None else comment_end false bytes
 
 -- TOKENS
 
--- a token at the front, or nothing where blanks stand there, and what is behind it
 abbrev pub skipped : Option (List ℕ) → Option Token × List ℕ
 skipped None = (Some tokens.Bad, [])
 skipped (Some rest) = (None, rest)
@@ -180,59 +205,73 @@ skipped (Some rest) = (None, rest)
 abbrev pub seen : Token × List ℕ → Option Token × List ℕ
 seen r = (Some r.0, r.1)
 
--- a token that is no word and begins with this byte
-abbrev pub other_at : ℕ → List ℕ → Token × List ℕ
-other_at b bytes =
-    if b == 43 then signed_at false bytes
-    else (if b == 45 then signed_at true bytes
+-- a token that is no word and begins with this byte, behind what ends an operand or not
+abbrev pub other_at : Bool → ℕ → List ℕ → Token × List ℕ
+other_at operand b bytes =
+    if b == 43 then signed_at operand false bytes
+    else (if b == 45 then signed_at operand true bytes
     else (if b == 39 || b == 34 then text_at (text_from b Plain bytes)
     else (if b == 96 then quoted_at (up_to 96 bytes)
     else symbol_at b bytes)))
 
-abbrev pub lexeme_at : List ℕ → Option Token × List ℕ
-lexeme_at [] = (None, [])
-lexeme_at (b ∷ bytes) =
+-- a token at the front, or nothing where blanks stand there, and what is behind it
+abbrev pub lexeme_at : Bool → List ℕ → Option Token × List ℕ
+lexeme_at operand [] = (None, [])
+lexeme_at operand (b ∷ bytes) =
     if is_blank b then (None, bytes)
     else (if b == 47 && starts 42 bytes then skipped (comment_at (rest_of bytes))
     else (if begins_name b then seen (word_at (b ∷ bytes))
     else (if is_ascii_digit b then seen (digits_at (b ∷ bytes))
-    else seen (other_at b bytes))))
+    else seen (other_at operand b bytes))))
 
 abbrev pub is_bad : Token → Bool
 is_bad tokens.Bad = true
 is_bad _ = false
 
+-- a token that ends an operand: a name, digits, a text, NULL or `)`
+abbrev pub ends_operand : Token → Bool
+ends_operand (tokens.Fixed Null) = true
+ends_operand (tokens.Fixed Close) = true
+ends_operand (tokens.Fixed f) = false
+ends_operand tokens.Bad = false
+ends_operand t = true
+
 -- a token, and how many bytes are left from its first one on
 abbrev pub Placed : Type 0
 Placed = Token × ℕ
 
--- what one step finds, and, unless it is the last one, whether a word or digits stand directly before what is left, and that
+-- what one step finds, and, unless it is the last one, what stands before what is left, and that
 abbrev pub Step : Type 0
-Step = List Placed × Option (Bool × List ℕ)
+Step = List Placed × Option (Before × List ℕ)
 
-abbrev pub placed : ℕ → Bool → Option Token × List ℕ → Step
-placed left touching (None, rest) = ([], Some (touching, rest))
-placed left touching (Some token, rest) = ((token, left) ∷ [], if is_bad token then None else Some (touching, rest))
+-- blanks between a token and a sign don't change what the sign is
+abbrev pub placed : ℕ → Before → Option Token × List ℕ → Step
+placed left before (None, rest) = ([], Some (before, rest))
+placed left before (Some token, rest) = ((token, left) ∷ [], if is_bad token then None else Some (record { touching = before.touching; operand = ends_operand token }, rest))
 
 -- between two tokens that are each a word or digits stands a blank
-abbrev pub step_at : Bool → List ℕ → Step
-step_at touching [] = ([], None)
-step_at touching (b ∷ bytes) =
-    if touching && continues_name b then ((tokens.Bad, length (b ∷ bytes)) ∷ [], None)
-    else placed (length (b ∷ bytes)) (continues_name b) (lexeme_at (b ∷ bytes))
+abbrev pub step_at : Before → List ℕ → Step
+step_at before [] = ([], None)
+step_at before (b ∷ bytes) =
+    if before.touching && continues_name b then ((tokens.Bad, length (b ∷ bytes)) ∷ [], None)
+    else placed (length (b ∷ bytes)) (record { touching = continues_name b; operand = before.operand }) (lexeme_at before.operand (b ∷ bytes))
 
-abbrev pub onward : (Bool → List ℕ → List Placed) → Step → List Placed
+abbrev pub onward : (Before → List ℕ → List Placed) → Step → List Placed
 onward again (found, None) = found
 onward again (found, Some next) = found ++ again next.0 next.1
 
 -- the tokens of the bytes, in so many steps; each takes a byte at least
-abbrev pub tokens_within : ℕ → Bool → List ℕ → List Placed
-tokens_within zero touching bytes = []
-tokens_within (suc count) touching bytes = onward (tokens_within count) (step_at touching bytes)
+abbrev pub tokens_within : ℕ → Before → List ℕ → List Placed
+tokens_within zero before bytes = []
+tokens_within (suc count) before bytes = onward (tokens_within count) (step_at before bytes)
+
+-- nothing stands before a text
+abbrev pub at_start : Before
+at_start = record { touching = false; operand = false }
 
 -- the tokens of a text, up to the first that is none
 unfoldable pub placed_tokens : List ℕ → List Placed
-placed_tokens text = tokens_within (length text) false text
+placed_tokens text = tokens_within (length text) at_start text
 
 -- without their places
 unfoldable pub tokens_of : List ℕ → List Token
@@ -258,27 +297,17 @@ scan_word bytes =
     if is_word (codes "ORDER") bytes then Some Order
     else (if is_word (codes "BY") bytes then Some By
     else (if is_word (codes "LIMIT") bytes then Some Limit
-    else (if is_word (codes "LOCK") bytes then Some Lock
-    else (if is_word (codes "SHARE") bytes then Some Share
-    else (if is_word (codes "MODE") bytes then Some Mode
-    else (if is_word (codes "FOR") bytes then Some For
-    else (if is_word (codes "UPDATE") bytes then Some Update
-    else None)))))))
+    else None))
 
 -- those of what is written, and of aggregates
 abbrev pub other_word : List ℕ → Option Fixed
 other_word bytes =
     if is_word (codes "REPLACE") bytes then Some Replace
-    else (if is_word (codes "DELETE") bytes then Some Delete
     else (if is_word (codes "COUNT") bytes then Some Count
     else (if is_word (codes "SUM") bytes then Some Sum
     else (if is_word (codes "MIN") bytes then Some Min
     else (if is_word (codes "MAX") bytes then Some Max
-    else None)))))
-
-abbrev pub first_word : Option Fixed → Option Fixed → Option Fixed
-first_word None other = other
-first_word (Some f) other = Some f
+    else None))))
 
 -- the keywords of link text alone
 abbrev pub link_word : List ℕ → Option Fixed

@@ -1,7 +1,7 @@
 //! Tokens at the front, one at a time.
 ghost use Rattle.std.specs.Prelude.{◌≡◌, length, true, false, Ok};
 ghost use Rattle.sql_text.specs.declared.fault.ReadError.TheVariants as errors;
-ghost use Rattle.sql_text.specs.Grammar.{name_of as value_of_name, literal_of as value_of_literal, comparison_of as value_of_comparison, is_spider as word_is_spider};
+ghost use Rattle.sql_text.specs.Grammar.{name_of as value_of_name, literal_of as value_of_literal, comparison_of as value_of_comparison, sign_of as value_of_sign, is_spider as word_is_spider};
 ghost use Rattle.std.specs.Option.{option_copied};
 ghost use Rattle.sql_text.specs.declared.token.Token.TheVariants as tokens;
 ghost use Rattle.sql_text.specs.Reading.{Gives, number_of, begins as front_is, behind as rest_behind, stands, expect as expect_at, open_at, optional_at, name_at, literal_at, one_at};
@@ -80,6 +80,9 @@ fn number(fixed: Fixed) -> u8
         Fixed::Sum => 43,
         Fixed::Update => 44,
         Fixed::Xa => 45,
+        Fixed::Set => 46,
+        Fixed::Plus => 47,
+        Fixed::Minus => 48,
     }
 }
 
@@ -195,6 +198,27 @@ pub fn literal(tokens: &[Token]) -> Result<(Literal, &[Token]), ReadError>
         [Token::Signed(number), rest @ ..] => Ok((Literal::Number(*number), rest)),
         [Token::Text(text), rest @ ..] => Ok((Literal::Text(text.clone()?), rest)),
         [Token::Fixed(Fixed::Null), rest @ ..] => Ok((Literal::Null, rest)),
+        _ => Err(syntax_error(tokens)),
+    }
+}
+
+/// Whether a sign stands at the front.
+pub fn sign_stands(tokens: &[Token]) -> bool
+    ensures { result ≡ stands value_of_sign tokens.now }
+{
+    match tokens {
+        [Token::Fixed(Fixed::Plus), ..] | [Token::Fixed(Fixed::Minus), ..] => true,
+        _ => false,
+    }
+}
+
+/// The sign at the front: whether it is a minus.
+pub fn sign(tokens: &[Token]) -> Result<(bool, &[Token]), ReadError>
+    ensures { Gives (λ x. (x.0, x.1.now)) result (one_at value_of_sign tokens.now) }
+{
+    match tokens {
+        [Token::Fixed(Fixed::Plus), rest @ ..] => Ok((false, rest)),
+        [Token::Fixed(Fixed::Minus), rest @ ..] => Ok((true, rest)),
         _ => Err(syntax_error(tokens)),
     }
 }

@@ -1,13 +1,13 @@
 //! Tokens out of bytes, in one pass.
 ghost use Rattle.std.specs.Prelude.{◌≡◌, ◌+◌, ◌++◌, [], ◌∷◌, map, IfOk, OnOk, option_map};
-ghost use Rattle.sql_text.specs.Tokens.{starts as starts_with_byte, rest_of, symbol_at, lexeme_at, is_bad as token_is_bad, step_at, Placed, other_at, dialect_tokens, in_dialect as token_in_dialect};
+ghost use Rattle.sql_text.specs.Tokens.{starts as starts_with_byte, rest_of, symbol_at, lexeme_at, is_bad as token_is_bad, ends_operand as operand_ends, step_at, Placed, other_at, dialect_tokens, in_dialect as token_in_dialect};
 ghost use Rattle.sql_text.specs.Parsing.{lefts_of};
 
 use crate::lexer::blanks::{comment, is_blank};
 use crate::lexer::digits::{digits, signed};
 use crate::lexer::quoted::{quoted_name, text};
 use crate::lexer::words::{begins_name, continues_name, in_dialect, word};
-use crate::token::{Dialect, Fixed, Token};
+use crate::token::{Before, Dialect, Fixed, Token};
 use std::alloc::{AllocError, Global};
 
 mod blanks;
@@ -74,6 +74,18 @@ fn is_bad(token: &Token) -> bool
     }
 }
 
+/// Whether a token ends an operand: a name, digits, a text, NULL or `)`.
+fn ends_operand(token: &Token) -> bool
+    ensures { result ≡ operand_ends token.now }
+{
+    match token {
+        Token::Fixed(Fixed::Null) | Token::Fixed(Fixed::Close) => true,
+        Token::Fixed(_) | Token::Bad => false,
+        Token::Bare(_) | Token::Quoted(_) => true,
+        Token::Digits(_) | Token::Signed(_) | Token::Text(_) => true,
+    }
+}
+
 /// Whether this byte stands at the front.
 fn starts(byte: u8, bytes: &[u8]) -> bool
     ensures { result ≡ starts_with_byte byte bytes.now }
@@ -94,13 +106,18 @@ fn behind_first(bytes: &[u8]) -> &[u8]
     }
 }
 
-/// A token that is no word and begins with this byte.
-fn other_token(alloc: Global, first: u8, rest: &[u8]) -> Result<(Token, &[u8]), AllocError>
-    ensures { IfOk result (λ x. (x.0, x.1.now) ≡ other_at first rest.now) }
+/// A token that is no word and begins with this byte, behind what ends an operand or not.
+fn other_token(
+    alloc: Global,
+    operand: bool,
+    first: u8,
+    rest: &[u8],
+) -> Result<(Token, &[u8]), AllocError>
+    ensures { IfOk result (λ x. (x.0, x.1.now) ≡ other_at operand first rest.now) }
 {
     match first {
-        b'+' => Ok(signed(false, rest)),
-        b'-' => Ok(signed(true, rest)),
+        b'+' => Ok(signed(operand, false, rest)),
+        b'-' => Ok(signed(operand, true, rest)),
         b'\'' | b'"' => text(alloc, first, rest),
         b'`' => quoted_name(alloc, rest),
         _ => Ok(symbol(first, rest)),
@@ -108,8 +125,8 @@ fn other_token(alloc: Global, first: u8, rest: &[u8]) -> Result<(Token, &[u8]), 
 }
 
 /// A token at the front, or nothing where blanks stand there, and what is behind it.
-fn lexeme(alloc: Global, bytes: &[u8]) -> Result<(Option<Token>, &[u8]), AllocError>
-    ensures { IfOk result (λ x. (x.0, x.1.now) ≡ lexeme_at bytes.now) }
+fn lexeme(alloc: Global, operand: bool, bytes: &[u8]) -> Result<(Option<Token>, &[u8]), AllocError>
+    ensures { IfOk result (λ x. (x.0, x.1.now) ≡ lexeme_at operand bytes.now) }
 {
     let [first, rest @ ..] = bytes else {
         return Ok((None, bytes));
@@ -129,41 +146,49 @@ fn lexeme(alloc: Global, bytes: &[u8]) -> Result<(Option<Token>, &[u8]), AllocEr
         let (token, rest) = digits(bytes);
         return Ok((Some(token), rest));
     }
-    let (token, rest) = other_token(alloc, first, rest)?;
+    let (token, rest) = other_token(alloc, operand, first, rest)?;
     Ok((Some(token), rest))
 }
 
-/// One step: adds the token at the front, if one stands there, and answers whether a word or digits stand directly before what is left, and that.
+/// One step: adds the token at the front, if one stands there, and answers what stands before what is left, and that.
 fn step<'a>(
     alloc: Global,
     dialect: Dialect,
     out: &mut Tokens,
-    touching: bool,
+    before: Before,
     bytes: &'a [u8],
-) -> Result<Option<(bool, &'a [u8])>, AllocError>
-    ensures tokens { OnOk result (out.new.tokens.items ≡ out.old.tokens.items ++ map (λ (p : Placed). token_in_dialect dialect p.0) (step_at touching bytes.now).0) }
-    ensures lefts { OnOk result (out.new.lefts.items ≡ out.old.lefts.items ++ map (λ (p : Placed). p.1) (step_at touching bytes.now).0) }
-    ensures rest { IfOk result (λ x. option_map (λ y. (y.0, y.1.now)) x ≡ (step_at touching bytes.now).1) }
+) -> Result<Option<(Before, &'a [u8])>, AllocError>
+    ensures tokens { OnOk result (out.new.tokens.items ≡ out.old.tokens.items ++ map (λ (p : Placed). token_in_dialect dialect p.0) (step_at before bytes.now).0) }
+    ensures lefts { OnOk result (out.new.lefts.items ≡ out.old.lefts.items ++ map (λ (p : Placed). p.1) (step_at before bytes.now).0) }
+    ensures rest { IfOk result (λ x. option_map (λ y. (y.0, y.1.now)) x ≡ (step_at before bytes.now).1) }
 {
     let [first, ..] = bytes else {
         return Ok(None);
     };
     let left = bytes.len();
     let touches = continues_name(*first);
-    if touching && touches {
+    if before.touching && touches {
         out.push(Token::Bad, left)?;
         return Ok(None);
     }
-    let (token, rest) = lexeme(alloc, bytes)?;
+    let (token, rest) = lexeme(alloc, before.operand, bytes)?;
     let Some(token) = token else {
-        return Ok(Some((touches, rest)));
+        let next = Before {
+            touching: touches,
+            operand: before.operand,
+        };
+        return Ok(Some((next, rest)));
     };
     let last = is_bad(&token);
+    let next = Before {
+        touching: touches,
+        operand: ends_operand(&token),
+    };
     out.push(in_dialect(dialect, token), left)?;
     if last {
         Ok(None)
     } else {
-        Ok(Some((touches, rest)))
+        Ok(Some((next, rest)))
     }
 }
 
@@ -174,13 +199,16 @@ pub fn read_tokens(alloc: Global, dialect: Dialect, text: &[u8]) -> Result<Token
     ensures lefts { IfOk result (λ t. t.lefts.items ≡ lefts_of text.now) }
 {
     let mut out = Tokens::new(alloc);
-    let mut touching = false;
+    let mut before = Before {
+        touching: false,
+        operand: false,
+    };
     let mut rest = text;
     for _ in 0..text.len() {
-        match step(alloc, dialect, &mut out, touching, rest)? {
+        match step(alloc, dialect, &mut out, before, rest)? {
             None => return Ok(out),
-            Some((touches, behind)) => {
-                touching = touches;
+            Some((next, behind)) => {
+                before = next;
                 rest = behind;
             }
         }

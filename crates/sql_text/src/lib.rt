@@ -3,13 +3,17 @@
 //!
 //! A text is read in two layers. Bytes are tokens by `specs/Tokens`: words, names in backquotes, digits, texts and symbols, with blanks and comments between
 //! them, up to the first that is no token. Tokens are a statement by `specs/Grammar`, or a request by `specs/LinkGrammar`, relations made rule by rule, apart
-//! from the parser. INSERT has an optional list of columns and rows of literals; SELECT has `*` or at most 900 columns with aliases, one table, and a
-//! condition. The ten requests are five of a branch and XA RECOVER, a scan, rows that are put, and keys that go, by list or between two. The words of link
-//! text that no statement has, as XA or ORDER, are keywords there alone, and names in statements.
+//! from the parser. INSERT has an optional list of columns and rows of literals; SELECT has `*` or at most 900 columns with aliases, one table, a condition,
+//! and FOR UPDATE or LOCK IN SHARE MODE; UPDATE sets columns to expressions, and like DELETE it has one table and a condition. The ten requests are five of a
+//! branch and XA RECOVER, a scan, rows that are put, and keys that go, by list or between two. The words of link text that no statement has, as XA or ORDER,
+//! are keywords there alone, and names in statements.
 //!
-//! `parse` answers a statement exactly where the bytes are UTF-8 and their tokens are one, with at most 64 openings (parentheses and NOTs) inside one
-//! another; in link text there may be 65. Else it tells the first fault: the first byte of the first token that no statement with the same earlier tokens has
-//! there, of the first opening too many, or of the first bytes that aren't UTF-8, whichever comes first, or the text's length where that ends too early.
+//! A sign directly before digits is one token with them, except behind a name, digits, a text, NULL or `)`, where it is an operator: `v -1` is `v - 1`.
+//!
+//! `parse` answers a statement exactly where the bytes are UTF-8 and their tokens are one, with at most 64 openings (parentheses, NOTs and the minuses of
+//! factors) inside one another; in link text there may be 65. Else it tells the first fault: the first byte of the first token that no statement with the
+//! same earlier tokens has there, of the first opening too many, or of the first bytes that aren't UTF-8, whichever comes first, or the text's length where
+//! that ends too early.
 //! Definitions give each text in quotes a value by replacing wrong bytes. That changes no literal that is answered: an escape stands for an ASCII byte, so
 //! what stands in quotes in UTF-8 is UTF-8.
 //!
@@ -34,7 +38,10 @@ pub use link::{AggregateCall, AggregateCalls, Cell, LinkAnswer, LinkRequest, Sca
 pub use link_printing::print_link;
 pub use parsing::{MOST_LINK_OPENINGS, MOST_OPENINGS, parse, parse_link};
 pub use printing::{print, push_quoted};
-pub use statement::{Insert, Item, ItemList, Names, Select, SelectItems, Statement, Tab, Tuples};
+pub use statement::{
+    Assignment, Assignments, Delete, Insert, Item, ItemList, Names, Select, SelectItems, Statement,
+    Tab, Tuples, Update,
+};
 pub use token::{Fixed, Token};
 
 #[cfg(test)]

@@ -3,13 +3,13 @@ ghost use Rattle.std.specs.Prelude.{◌≡◌, ◌++◌, [], ◌∷◌, OnOk, If
 ghost use Rattle.std.specs.List.{flat_map};
 ghost use Rattle.std.specs.Fmt.{signed_decimal};
 ghost use Rattle.sql_text.specs.declared.link.LinkRequest.TheVariants as requests;
-ghost use Rattle.sql_text.specs.Printing.{joined_text, name_text, column_text};
-ghost use Rattle.sql_text.specs.LinkPrinting.{xid_text, value_text, row_text, call_text, scan_items_text, order_text, limit_text, lock_text, link_printed};
+ghost use Rattle.sql_text.specs.Printing.{joined_text, name_text, column_text, lock_text};
+ghost use Rattle.sql_text.specs.LinkPrinting.{xid_text, value_text, row_text, call_text, scan_items_text, order_text, limit_text, link_printed};
 
 use crate::link::{AggregateCall, LinkRequest, Scan, ScanItems};
-use crate::printing::{push_column, push_name, push_quoted, push_where};
+use crate::printing::{push_column, push_lock, push_name, push_quoted, push_where};
 use list_types::{Bytes, Listed};
-use sql_values::{ColumnName, LockMode, Name, Row, Value, Xid};
+use sql_values::{ColumnName, Name, Row, Value, Xid};
 use std::alloc::{AllocError, Global};
 
 /// Adds the name of a branch, with the format 1.
@@ -197,16 +197,6 @@ fn push_limit(alloc: Global, out: &mut Vec<u8>, limit: Option<u64>) -> Result<()
     let digits = count.to_string(alloc)?;
     out.extend_from_slice(b" LIMIT ")?;
     out.extend_from_slice(digits.as_str().as_bytes())
-}
-
-/// Adds how the rows are locked.
-fn push_lock(out: &mut Vec<u8>, lock: LockMode) -> Result<(), AllocError>
-    ensures { OnOk result (out.new.items ≡ out.old.items ++ lock_text lock) }
-{
-    match lock {
-        LockMode::Shared => out.extend_from_slice(b" LOCK IN SHARE MODE"),
-        LockMode::Exclusive => out.extend_from_slice(b" FOR UPDATE"),
-    }
 }
 
 /// Adds words and a name behind them.

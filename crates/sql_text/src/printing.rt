@@ -3,12 +3,18 @@ ghost use Rattle.std.specs.Prelude.{◌≡◌, ◌++◌, [], ◌∷◌, OnOk, If
 ghost use Rattle.std.specs.List.{flat_map};
 ghost use Rattle.std.specs.Fmt.{signed_decimal};
 ghost use Rattle.sql_text.specs.declared.statement.Statement.TheVariants as statements;
-ghost use Rattle.sql_text.specs.Printing.{escaped, quoted, literal_text, name_text, joined_text, qualifier_text, column_text, operand_text, comparison_text, negation_text, literals_text, opening, closing, at_level, shown_cond, cond_text, alias_text, item_text, items_text, where_text, columns_text, tuple_text, printed};
+ghost use Rattle.sql_text.specs.Printing.{escaped, quoted, literal_text, name_text, joined_text, qualifier_text, column_text, operand_text, comparison_text, negation_text, literals_text, opening, closing, at_level, shown_cond, cond_text, alias_text, item_text, items_text, where_text, columns_text, tuple_text, lock_text, locked_text, assignment_text, printed};
 
-use crate::statement::{Insert, Item, Names, Select, SelectItems, Statement, Tab};
+use crate::printing::expressions::push_expr;
+use crate::statement::{
+    Assignment, Assignments, Delete, Insert, Item, Names, Select, SelectItems, Statement, Tab,
+    Update,
+};
 use list_types::{Bytes, Listed};
-use sql_values::{ColumnName, Comparison, Cond, Literal, Literals, Name, Operand};
+use sql_values::{ColumnName, Comparison, Cond, Literal, Literals, LockMode, Name, Operand};
 use std::alloc::{AllocError, Global};
+
+mod expressions;
 
 /// Adds one byte of a text, as it stands in a literal.
 fn push_escaped(out: &mut Vec<u8>, byte: u8) -> Result<(), AllocError>
@@ -40,7 +46,7 @@ pub fn push_quoted(out: &mut Vec<u8>, text: &[u8]) -> Result<(), AllocError>
 }
 
 /// Adds a literal.
-fn push_literal(alloc: Global, out: &mut Vec<u8>, literal: &Literal) -> Result<(), AllocError>
+pub fn push_literal(alloc: Global, out: &mut Vec<u8>, literal: &Literal) -> Result<(), AllocError>
     ensures { OnOk result (out.new.items ≡ out.old.items ++ literal_text literal.now) }
 {
     match literal {
@@ -141,7 +147,7 @@ fn push_negation(out: &mut Vec<u8>, negated: bool) -> Result<(), AllocError>
     Ok(())
 }
 
-fn push_opening(out: &mut Vec<u8>, enclosed: bool) -> Result<(), AllocError>
+pub fn push_opening(out: &mut Vec<u8>, enclosed: bool) -> Result<(), AllocError>
     ensures { OnOk result (out.new.items ≡ out.old.items ++ opening enclosed) }
 {
     if enclosed {
@@ -150,7 +156,7 @@ fn push_opening(out: &mut Vec<u8>, enclosed: bool) -> Result<(), AllocError>
     Ok(())
 }
 
-fn push_closing(out: &mut Vec<u8>, enclosed: bool) -> Result<(), AllocError>
+pub fn push_closing(out: &mut Vec<u8>, enclosed: bool) -> Result<(), AllocError>
     ensures { OnOk result (out.new.items ≡ out.old.items ++ closing enclosed) }
 {
     if enclosed {
@@ -425,6 +431,34 @@ fn push_source(out: &mut Vec<u8>, tab: &Tab) -> Result<(), AllocError>
     push_alias(out, &tab.alias)
 }
 
+/// Adds how rows are locked.
+pub fn push_lock(out: &mut Vec<u8>, lock: LockMode) -> Result<(), AllocError>
+    ensures { OnOk result (out.new.items ≡ out.old.items ++ lock_text lock) }
+{
+    match lock {
+        LockMode::Shared => out.extend_from_slice(b" LOCK IN SHARE MODE"),
+        LockMode::Exclusive => out.extend_from_slice(b" FOR UPDATE"),
+    }
+}
+
+/// Adds how rows are locked, or nothing.
+fn push_locked(out: &mut Vec<u8>, lock: Option<LockMode>) -> Result<(), AllocError>
+    ensures { OnOk result (out.new.items ≡ out.old.items ++ locked_text lock) }
+{
+    match lock {
+        Some(lock) => push_lock(out, lock),
+        None => Ok(()),
+    }
+}
+
+/// Adds what stands behind the table of a SELECT.
+fn push_select_end(alloc: Global, out: &mut Vec<u8>, select: &Select) -> Result<(), AllocError>
+    ensures { OnOk result (out.new.items ≡ out.old.items ++ (where_text select.now.cond ++ locked_text select.now.lock)) }
+{
+    push_where(alloc, out, &select.cond)?;
+    push_locked(out, select.lock)
+}
+
 /// Adds a SELECT.
 #[tactic(auto, unfolding(crate::specs::Printing::printed))]
 fn push_select(alloc: Global, out: &mut Vec<u8>, select: &Select) -> Result<(), AllocError>
@@ -433,11 +467,83 @@ fn push_select(alloc: Global, out: &mut Vec<u8>, select: &Select) -> Result<(), 
     out.extend_from_slice(b"SELECT ")?;
     push_items(out, &select.items)?;
     push_source(out, &select.tab)?;
-    push_where(alloc, out, &select.cond)
+    push_select_end(alloc, out, select)
+}
+
+/// Adds an assignment.
+fn push_assignment(
+    alloc: Global,
+    out: &mut Vec<u8>,
+    assignment: &Assignment,
+) -> Result<(), AllocError>
+    ensures { OnOk result (out.new.items ≡ out.old.items ++ assignment_text assignment.now) }
+{
+    push_name(out, &assignment.column)?;
+    out.extend_from_slice(b" = ")?;
+    push_expr(alloc, out, &assignment.value)
+}
+
+/// Adds further assignments, each behind a comma and a blank.
+fn push_further_assignments(
+    alloc: Global,
+    out: &mut Vec<u8>,
+    assignments: &[Assignment],
+) -> Result<(), AllocError>
+    ensures { OnOk result (out.new.items ≡ out.old.items ++ flat_map (λ y. codes ", " ++ y) (map assignment_text assignments.now)) }
+{
+    for assignment in assignments {
+        out.extend_from_slice(b", ")?;
+        push_assignment(alloc, out, assignment)?;
+    }
+    Ok(())
+}
+
+fn push_assignments(
+    alloc: Global,
+    out: &mut Vec<u8>,
+    assignments: &[Assignment],
+) -> Result<(), AllocError>
+    ensures { OnOk result (out.new.items ≡ out.old.items ++ joined_text (codes ", ") (map assignment_text assignments.now)) }
+{
+    let [first, others @ ..] = assignments else {
+        return Ok(());
+    };
+    push_assignment(alloc, out, first)?;
+    push_further_assignments(alloc, out, others)
+}
+
+/// Adds SET and assignments.
+fn push_set(alloc: Global, out: &mut Vec<u8>, sets: &Assignments) -> Result<(), AllocError>
+    ensures { OnOk result (out.new.items ≡ out.old.items ++ (codes " SET " ++ joined_text (codes ", ") (map assignment_text sets.now))) }
+{
+    out.extend_from_slice(b" SET ")?;
+    push_assignments(alloc, out, sets.as_slice())
+}
+
+/// Adds an UPDATE.
+#[tactic(auto, unfolding(crate::specs::Printing::printed))]
+fn push_update(alloc: Global, out: &mut Vec<u8>, update: &Update) -> Result<(), AllocError>
+    ensures { OnOk result (out.new.items ≡ out.old.items ++ printed (statements.Update update.now)) }
+{
+    out.extend_from_slice(b"UPDATE ")?;
+    push_name(out, &update.table)?;
+    push_set(alloc, out, &update.sets)?;
+    push_where(alloc, out, &update.cond)
+}
+
+/// Adds a DELETE.
+#[tactic(auto, unfolding(crate::specs::Printing::printed))]
+fn push_delete(alloc: Global, out: &mut Vec<u8>, delete: &Delete) -> Result<(), AllocError>
+    ensures { OnOk result (out.new.items ≡ out.old.items ++ printed (statements.Delete delete.now)) }
+{
+    out.extend_from_slice(b"DELETE FROM ")?;
+    push_name(out, &delete.table)?;
+    push_where(alloc, out, &delete.cond)
 }
 
 /// The canonical text of a statement: keywords in capitals, one blank between words, names in backquotes, values with `,` between them and other lists with
-/// `, `, texts in `'`, and parentheses round a condition only where it would read otherwise without them.
+/// `, `, texts in `'`, one blank on each side of a sign or star and one behind a minus of a factor, and parentheses round a condition or an expression only
+/// where it would read otherwise without them.
 pub fn print(alloc: Global, statement: &Statement) -> Result<Bytes, AllocError>
     ensures { IfOk result (λ text. text ≡ printed statement.now) }
 {
@@ -445,6 +551,8 @@ pub fn print(alloc: Global, statement: &Statement) -> Result<Bytes, AllocError>
     match statement {
         Statement::Insert(insert) => push_insert(alloc, &mut out, insert)?,
         Statement::Select(select) => push_select(alloc, &mut out, select)?,
+        Statement::Update(update) => push_update(alloc, &mut out, update)?,
+        Statement::Delete(delete) => push_delete(alloc, &mut out, delete)?,
     }
     Ok(Listed::from_vec(out))
 }

@@ -1,5 +1,5 @@
 use list_types::Listed;
-use sql_values::{ColumnName, Cond, Literals, Name};
+use sql_values::{ColumnName, Cond, Expr, Literals, LockMode, Name};
 
 /// A statement of a client.
 #[derive(Debug, Drop)]
@@ -8,6 +8,10 @@ pub enum Statement {
     Insert(Insert),
     /// SELECT.
     Select(Select),
+    /// UPDATE.
+    Update(Update),
+    /// DELETE.
+    Delete(Delete),
 }
 
 /// Names of columns, in order.
@@ -30,6 +34,8 @@ pub struct Select {
     pub items: SelectItems,
     pub tab: Tab,
     pub cond: Option<Cond>,
+    /// How it says that the rows are locked: FOR UPDATE is `Exclusive`, LOCK IN SHARE MODE is `Shared`.
+    pub lock: Option<LockMode>,
 }
 
 /// What a SELECT asks of each row.
@@ -56,4 +62,29 @@ pub type ItemList = Listed<Item>;
 pub struct Tab {
     pub table: Name,
     pub alias: Option<Name>,
+}
+
+/// UPDATE: columns of the rows of a table for which a condition holds are set, one after the other.
+#[derive(Debug, Drop)]
+pub struct Update {
+    pub table: Name,
+    pub sets: Assignments,
+    pub cond: Option<Cond>,
+}
+
+/// A column that an UPDATE sets, and the expression that gives its value.
+#[derive(Debug, Drop)]
+pub struct Assignment {
+    pub column: Name,
+    pub value: Expr,
+}
+
+/// Assignments, in order. A later one sees what the earlier ones set.
+pub type Assignments = Listed<Assignment>;
+
+/// DELETE: the rows of a table for which a condition holds go.
+#[derive(Debug, Drop)]
+pub struct Delete {
+    pub table: Name,
+    pub cond: Option<Cond>,
 }

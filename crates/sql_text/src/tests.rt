@@ -47,7 +47,7 @@ fn enclosed(rt: &HostRuntime, times: usize, inside: &[u8]) -> Result<(u8, u64), 
 
 #[test]
 fn statements_and_faults(rt: HostRuntime) -> Result<(), Fail> {
-    let cases: [(&[u8], u8, u64); 25] = [
+    let cases: [(&[u8], u8, u64); 24] = [
         (b"SELECT * FROM t", 0, 0),
         (
             b" select `a` as b,t.c from spider.t u where not a=1 or b in ('x',\"y\"\"\\n\") ; ",
@@ -88,11 +88,49 @@ fn statements_and_faults(rt: HostRuntime) -> Result<(), Fail> {
         (b"SELECT a FROM Spider.t", 1, 20),
         (b"SELECT a FROM `spider`.t", 1, 22),
         (b"SELECT a FROM spider", 0, 0),
-        (b"SELECT xa, order start FROM limit AS lock", 0, 0),
     ];
     for (text, kind, place) in cases {
         assert_eq!(rt; outcome(&rt, text), (kind, place), "{text:?}");
     }
+    Ok(())
+}
+
+#[test]
+fn words_and_signs(rt: HostRuntime) -> Result<(), Fail> {
+    let cases: [(&[u8], u8, u64); 18] = [
+        (b"SELECT xa, order start FROM limit AS max", 0, 0),
+        (b"SELECT lock FROM t", 1, 7),
+        (b"SELECT a FROM t FOR UPDATE;", 0, 0),
+        (b"SELECT a FROM t lock in share mode", 0, 0),
+        (b"SELECT a FROM t FOR", 1, 19),
+        (b"SELECT a FROM t FOR SHARE", 1, 20),
+        (b"SELECT a FROM t FOR UPDATE WHERE a = 1", 1, 27),
+        (b"SELECT a FROM t WHERE a -1", 1, 24),
+        (b"SELECT a FROM t WHERE a = - 1", 1, 26),
+        (b"SELECT a FROM t WHERE a = -1 -1", 1, 29),
+        (b"INSERT t VALUES (1 -1)", 1, 19),
+        (b"delete from spider.t where not a = -1", 0, 0),
+        (b"DELETE t", 1, 7),
+        (b"update t set v = v-1, w = - -(a*+2)", 0, 0),
+        (b"UPDATE t SET t.v = 1", 1, 14),
+        (b"UPDATE t SET v = 1 2", 1, 19),
+        (b"UPDATE t SET v = 1 +", 1, 20),
+        (b"UPDATE t SET v = a = 1", 1, 19),
+    ];
+    for (text, kind, place) in cases {
+        assert_eq!(rt; outcome(&rt, text), (kind, place), "{text:?}");
+    }
+    Ok(())
+}
+
+#[test]
+fn openings_of_expressions(rt: HostRuntime) -> Result<(), Fail> {
+    let front = b"UPDATE t SET v = ";
+    assert_eq!(rt; repeated(&rt, front, b"- ", 64, b"1")?, (0, 0));
+    assert_eq!(rt; repeated(&rt, front, b"- ", 65, b"1")?, (2, 145));
+    assert_eq!(rt; repeated(&rt, front, b"(", 64, b"")?, (1, 81));
+    assert_eq!(rt; repeated(&rt, front, b"(", 65, b"")?, (2, 81));
+    assert_eq!(rt; repeated(&rt, front, b"1 - ", 100, b"1")?, (0, 0));
     Ok(())
 }
 
@@ -127,10 +165,14 @@ fn long_texts(rt: HostRuntime) -> Result<(), Fail> {
     Ok(())
 }
 
+fn printed(rt: &HostRuntime, statement: &Statement) -> Result<Bytes, Fail> {
+    Ok(print(rt.alloc(), statement)?)
+}
+
 // The canonical text of a statement, or nothing where it is refused.
 fn canonical(rt: &HostRuntime, text: &[u8]) -> Result<Bytes, Fail> {
     match parse(rt.alloc(), text) {
-        Ok(statement) => Ok(print(rt.alloc(), &statement)?),
+        Ok(statement) => printed(rt, &statement),
         Err(_) => Ok(Bytes::new(rt.alloc())),
     }
 }
@@ -160,6 +202,46 @@ fn canonical_texts(rt: HostRuntime) -> Result<(), Fail> {
             b"SELECT `a` FROM `t` WHERE (`a` > 1 OR 'x' = `b`) AND NOT `a` NOT IN (1,2) AND NOT NOT `t`.`b` NOT BETWEEN 1 AND 'y'",
         ),
         (b"SELECT a", b""),
+    ];
+    for (text, expected) in cases {
+        assert!(rt; prints_as(&rt, text, expected)?, "{text:?}");
+    }
+    Ok(())
+}
+
+#[test]
+fn canonical_changes(rt: HostRuntime) -> Result<(), Fail> {
+    let cases: [(&[u8], &[u8]); 9] = [
+        (
+            b"select a from t for update",
+            b"SELECT `a` FROM `t` FOR UPDATE",
+        ),
+        (
+            b"select a from t where a=1 lock in share mode;",
+            b"SELECT `a` FROM `t` WHERE `a` = 1 LOCK IN SHARE MODE",
+        ),
+        (b"delete from spider.t", b"DELETE FROM `t`"),
+        (b"delete from t where a+b", b""),
+        (
+            b"update t set v=(v)+1,w='x' where v in (1)",
+            b"UPDATE `t` SET `v` = `v` + 1, `w` = 'x' WHERE `v` IN (1)",
+        ),
+        (
+            b"update t set v=v -1- -1+(+2*a.b)",
+            b"UPDATE `t` SET `v` = `v` - 1 - -1 + 2 * `a`.`b`",
+        ),
+        (
+            b"update t set v=1-(2-3)-(4)*(5*6)*(7+8)",
+            b"UPDATE `t` SET `v` = 1 - (2 - 3) - 4 * (5 * 6) * (7 + 8)",
+        ),
+        (
+            b"update t set v=-a*-(-1)*- -1*-(a*b)",
+            b"UPDATE `t` SET `v` = - `a` * - -1 * - -1 * - (`a` * `b`)",
+        ),
+        (
+            b"update t set v=-(-(a+null))",
+            b"UPDATE `t` SET `v` = - - (`a` + NULL)",
+        ),
     ];
     for (text, expected) in cases {
         assert!(rt; prints_as(&rt, text, expected)?, "{text:?}");

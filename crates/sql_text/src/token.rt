@@ -7,36 +7,37 @@ pub enum Fixed {
     And,
     As,
     Between,
+    Delete,
+    For,
     From,
     In,
     Insert,
     Into,
+    Lock,
+    Mode,
     Not,
     Null,
     Or,
     Select,
+    Set,
+    Share,
+    Update,
     Values,
     Where,
     By,
     Commit,
     Count,
-    Delete,
     End,
-    For,
     Limit,
-    Lock,
     Max,
     Min,
-    Mode,
     Order,
     Prepare,
     Recover,
     Replace,
     Rollback,
-    Share,
     Start,
     Sum,
-    Update,
     Xa,
     /// `(`
     Open,
@@ -48,6 +49,10 @@ pub enum Fixed {
     Dot,
     /// `*`
     Star,
+    /// `+`
+    Plus,
+    /// `-`
+    Minus,
     /// `;`
     Semicolon,
     /// `=`
@@ -75,12 +80,21 @@ pub enum Token {
     Quoted(Name),
     /// Digits.
     Digits(i128),
-    /// Digits with a sign directly before them.
+    /// Digits with a sign directly before them that belongs to them.
     Signed(i128),
     /// A text in quotes.
     Text(Text),
     /// What is no token. Nothing behind it is looked at.
     Bad,
+}
+
+/// What stands before a place of a text.
+#[derive(Clone, Copy, Debug, PartialEq, Eq)]
+pub struct Before {
+    /// Whether a word or digits stand directly before it.
+    pub touching: bool,
+    /// Whether the token before it ends an operand, so that a sign there is an operator.
+    pub operand: bool,
 }
 
 /// Which words of a text are keywords.

@@ -1,5 +1,5 @@
--- The faults of a SELECT as the code finds them are its refusals.
-use Rattle.std.proofs.Common.{◌≡◌, ℕ, suc, ◌≤◌, Bool, true, false, cond, eqb, List, [], ◌∷◌, ◌++◌, length, refl, ap, sym, ◌∙◌, arith, Option, Some, None, ◌⊎◌, inl, inr, filter, find}
+-- The faults of SELECT, UPDATE and DELETE as the code finds them are their refusals.
+use Rattle.std.proofs.Common.{◌≡◌, ℕ, suc, ◌≤◌, Bool, true, false, ◌&&◌, cond, eqb, List, [], ◌∷◌, ◌++◌, length, refl, ap, sym, ◌∙◌, arith, Option, Some, None, ◌⊎◌, inl, inr, filter, find}
 use Rattle.std.specs.Prelude.{slice_get}
 use Rattle.std.specs.Option.{option_map, option_or}
 use Rattle.std.proofs.lemmas.Bool.{cases_Bool}
@@ -14,19 +14,23 @@ use Rattle.sql_values.specs.declared.tree.Cond.{Cond}
 use Rattle.sql_values.specs.Checks.{is_unknown, is_ambiguous, first_column, cond_columns, cond_fits, after_columns, named_fault}
 use Rattle.sql_values.specs.Columns.{may_mean, may_qualify, columns_meant}
 use Rattle.part_rules.specs.declared.rule.Rule.{Rule}
+use Rattle.sql_text.specs.declared.statement.Delete.{Delete}
 use Rattle.sql_text.specs.declared.statement.Select.{Select}
 use Rattle.sql_text.specs.declared.statement.SelectItems.{SelectItems}
+use Rattle.sql_text.specs.declared.statement.SelectItems.TheVariants as items
 use Rattle.sql_text.specs.declared.statement.Statement.{Statement}
 use Rattle.sql_text.specs.declared.statement.Statement.TheVariants as statement
+use Rattle.sql_text.specs.declared.statement.Update.{Update}
 use Rattle.stmt_plan.specs.declared.fault.StmtFault.{StmtFault}
-use Rattle.stmt_plan.specs.declared.fault.StmtFault.TheVariants.{NoColumn, Ambiguous, TypeMismatch, NoMemory}
-use Rattle.stmt_plan.specs.Chosen.{items_fault, where_fault, chosen_fault}
+use Rattle.stmt_plan.specs.declared.fault.StmtFault.TheVariants.{NoColumn, Ambiguous, KeyChanged, TypeMismatch, NoMemory}
+use Rattle.stmt_plan.specs.Chosen.{items_fault, where_fault, chosen_fault, where_fits, update_fault}
 use Rattle.stmt_plan.specs.Faults.{fault_of_check}
 use Rattle.stmt_plan.specs.Plans.{IsTable}
 use Rattle.stmt_plan.specs.Refusals.{refusal, mismatch_in}
-use Rattle.stmt_plan.specs.Selects.{called, known_name, item_columns, named_columns}
+use Rattle.stmt_plan.specs.Selects.{called, known_name, item_columns, where_columns, named_columns}
+use Rattle.stmt_plan.specs.Settings.{assigned_columns, settings, sets_key, sets_fault, sets_fit}
 use Rattle.stmt_plan.proofs.Meant.{found_mapped}
-use Rattle.stmt_plan.proofs.Seeks.{first-append}
+use Rattle.stmt_plan.proofs.Seeks.{first-append, first-nil}
 
 -- where what passes a test stands at one place, at most one does
 none_pass : {X : Type 0} (p : X → Bool) (xs : List X) → ((j : ℕ) (y : X) → slice_get xs j ≡ Some y → p y ≡ true → ⊥) → length (filter p xs) ≡ 0
@@ -68,7 +72,7 @@ none_found : (test : ColumnName → Bool) (names : List ColumnName) → ((name :
 none_found test [] never = refl
 none_found test (name ∷ names) never = rw (never name) (none_found test names never)
 
-none_ambiguous : (table : TableDef) (n : List ℕ) (names : List ColumnName) → IsTable table →
+pub none_ambiguous : (table : TableDef) (n : List ℕ) (names : List ColumnName) → IsTable table →
     first_column (is_ambiguous (called table n ∷ [])) names ≡ None
 unfolding first_column
 none_ambiguous table n names is = rw (none_found (is_ambiguous (called table n ∷ [])) names (λ name. not_ambiguous table n name is)) refl
@@ -110,12 +114,82 @@ pub refusal_of_select : (table : TableDef) (rule : Rule) (select : Select) → I
     refusal table rule (statement.Select select) ≡ chosen_fault table select
 refusal_of_select table rule select is = refusal_by table (known_name select.tab) select.items select.cond is
 
+pub refusal_of_delete : (table : TableDef) (rule : Rule) (delete : Delete) → IsTable table →
+    refusal table rule (statement.Delete delete) ≡ where_fault table delete.cond
+refusal_of_delete table rule delete is =
+    refusal_by table table.name items.All delete.cond is
+    ∙ ap (λ (o : Option (List ℕ)). option_or (option_map NoColumn o) (where_fault table delete.cond)) (first-nil (is_unknown (table ∷ [])))
+
+-- UPDATE
+
+-- a name that isn't known is told of what is set, and then of WHERE
+names_first : (sets wheres : Option (List ℕ)) (rest : Option StmtFault) →
+    option_or (option_map NoColumn (option_or sets wheres)) rest ≡ option_or (option_map NoColumn sets) (option_or (option_map NoColumn wheres) rest)
+names_first (Some n) wheres rest = refl
+names_first None wheres rest = refl
+
+-- types that don't go together are told last, wherever they meet
+types_last : (fit compare : Bool) →
+    option_or (cond {A = Option StmtFault} fit (cond {A = Option StmtFault} compare None (Some TypeMismatch)) (Some TypeMismatch)) None
+    ≡ cond {A = Option StmtFault} (fit && compare) None (Some TypeMismatch)
+types_last true true = refl
+types_last true false = refl
+types_last false compare = refl
+
+mismatch_is : (table : TableDef) (c : Option Cond) → mismatch_in table c ≡ cond {A = Option StmtFault} (where_fits table c) None (Some TypeMismatch)
+mismatch_is table None = refl
+mismatch_is table (Some c) = refl
+
+update_in_order : (all sets wheres several : Option (List ℕ)) (key values compared : Option StmtFault) (fit compare : Bool) → all ≡ option_or sets wheres →
+    several ≡ None → compared ≡ cond {A = Option StmtFault} compare None (Some TypeMismatch) →
+    option_or (option_map NoColumn all) (option_or (option_map Ambiguous several) (option_or key (option_or values (option_or (cond {A = Option StmtFault} fit compared (Some TypeMismatch)) None))))
+    ≡ option_or (option_map NoColumn sets) (option_or (option_map NoColumn wheres) (option_or key (option_or values (cond {A = Option StmtFault} (fit && compare) None (Some TypeMismatch)))))
+update_in_order all sets wheres several key values compared fit compare joined none types =
+    rw (joined, none, types, types_last fit compare) (names_first sets wheres (option_or key (option_or values (cond {A = Option StmtFault} (fit && compare) None (Some TypeMismatch)))))
+
+pub refusal_of_update : (table : TableDef) (rule : Rule) (update : Update) → IsTable table → refusal table rule (statement.Update update) ≡ update_fault table update
+refusal_of_update table rule update is =
+    update_in_order (first_column (is_unknown (table ∷ [])) (assigned_columns update.sets ++ where_columns update.cond)) (first_column (is_unknown (table ∷ [])) (assigned_columns update.sets))
+    (first_column (is_unknown (table ∷ [])) (where_columns update.cond)) (first_column (is_ambiguous (table ∷ [])) (assigned_columns update.sets ++ where_columns update.cond))
+    (cond {A = Option StmtFault} (sets_key table (settings table update.sets)) (Some KeyChanged) None) (sets_fault table (settings table update.sets)) (mismatch_in table update.cond)
+    (sets_fit table (settings table update.sets)) (where_fits table update.cond)
+    (first-append (is_unknown (table ∷ [])) (assigned_columns update.sets) (where_columns update.cond))
+    (none_ambiguous table table.name (assigned_columns update.sets ++ where_columns update.cond) is) (mismatch_is table update.cond)
+
+-- WHAT IS TOLD
+
+-- a fault that the code finds is told, where what it looks for is the refusal
+told_by : (refusals found : Option StmtFault) (fault : StmtFault) → refusals ≡ found →
+    (fault ≡ NoMemory) ⊎ (found ≡ Some fault) → (fault ≡ NoMemory) ⊎ (refusals ≡ Some fault)
+told_by refusals found fault same (inl none) = inl none
+told_by refusals found fault same (inr is) = inr (same ∙ is)
+
 pub told_of_select : (table : TableDef) (rule : Rule) (s : Statement) (select : Select) (fault : StmtFault) → IsTable table →
     s ≡ statement.Select select →
     (fault ≡ NoMemory) ⊎ (chosen_fault table select ≡ Some fault) → (fault ≡ NoMemory) ⊎ (refusal table rule s ≡ Some fault)
-told_of_select table rule s select fault is selects (inl none) = inl none
-told_of_select table rule s select fault is selects (inr found) = inr (ap (refusal table rule) selects ∙ refusal_of_select table rule select is ∙ found)
+told_of_select table rule s select fault is selects =
+    told_by (refusal table rule s) (chosen_fault table select) fault (ap (refusal table rule) selects ∙ refusal_of_select table rule select is)
 
 pub none_of_select : (table : TableDef) (rule : Rule) (s : Statement) (select : Select) → IsTable table → s ≡ statement.Select select →
     chosen_fault table select ≡ None → refusal table rule s ≡ None
 none_of_select table rule s select is selects none = ap (refusal table rule) selects ∙ refusal_of_select table rule select is ∙ none
+
+pub told_of_update : (table : TableDef) (rule : Rule) (s : Statement) (update : Update) (fault : StmtFault) → IsTable table →
+    s ≡ statement.Update update →
+    (fault ≡ NoMemory) ⊎ (update_fault table update ≡ Some fault) → (fault ≡ NoMemory) ⊎ (refusal table rule s ≡ Some fault)
+told_of_update table rule s update fault is updates =
+    told_by (refusal table rule s) (update_fault table update) fault (ap (refusal table rule) updates ∙ refusal_of_update table rule update is)
+
+pub none_of_update : (table : TableDef) (rule : Rule) (s : Statement) (update : Update) → IsTable table → s ≡ statement.Update update →
+    update_fault table update ≡ None → refusal table rule s ≡ None
+none_of_update table rule s update is updates none = ap (refusal table rule) updates ∙ refusal_of_update table rule update is ∙ none
+
+pub told_of_delete : (table : TableDef) (rule : Rule) (s : Statement) (delete : Delete) (fault : StmtFault) → IsTable table →
+    s ≡ statement.Delete delete →
+    (fault ≡ NoMemory) ⊎ (where_fault table delete.cond ≡ Some fault) → (fault ≡ NoMemory) ⊎ (refusal table rule s ≡ Some fault)
+told_of_delete table rule s delete fault is deletes =
+    told_by (refusal table rule s) (where_fault table delete.cond) fault (ap (refusal table rule) deletes ∙ refusal_of_delete table rule delete is)
+
+pub none_of_delete : (table : TableDef) (rule : Rule) (s : Statement) (delete : Delete) → IsTable table → s ≡ statement.Delete delete →
+    where_fault table delete.cond ≡ None → refusal table rule s ≡ None
+none_of_delete table rule s delete is deletes none = ap (refusal table rule) deletes ∙ refusal_of_delete table rule delete is ∙ none

@@ -87,7 +87,7 @@ Contains-mapped f P all [] y there = absurd (omega (arith, there.1))
 Contains-mapped f P all (x ∷ xs) y (zero, within, is) = subst P is (all x)
 Contains-mapped f P all (x ∷ xs) y (suc k, within, is) = Contains-mapped f P all xs y (k, omega arith, is)
 
-Contains-map : {X Y : Type 0} (f : X → Y) (xs : List X) (x : X) → Contains xs x → Contains (map f xs) (f x)
+pub Contains-map : {X Y : Type 0} (f : X → Y) (xs : List X) (x : X) → Contains xs x → Contains (map f xs) (f x)
 Contains-map f [] x there = absurd (omega (arith, there.1))
 Contains-map f (y ∷ xs) x (zero, within, is) = (zero, omega arith, ap f is)
 Contains-map f (y ∷ xs) x (suc k, within, is) =

@@ -1,18 +1,21 @@
 -- The faults of statements in the order in which the code finds them.
-use Rattle.std.specs.Prelude.{[], ◌∷◌, Option, option_and_then}
-use Rattle.std.specs.Option.{option_map, option_or}
+use Rattle.std.specs.Prelude.{Bool, true, ◌&&◌, [], ◌∷◌, List, Option, Some, None, option_and_then, if◌then◌else◌}
+use Rattle.std.specs.Option.{option_map, option_map_or, option_or}
 use Rattle.std.specs.Result.{result_err}
 use Rattle.sql_values.specs.declared.table.TableDef.{TableDef}
+use Rattle.sql_values.specs.declared.tree.ColumnName.{ColumnName}
 use Rattle.sql_values.specs.declared.tree.Cond.{Cond}
-use Rattle.sql_values.specs.Checks.{first_column, is_unknown, checked_cond}
+use Rattle.sql_values.specs.Checks.{first_column, is_unknown, checked_cond, cond_fits}
 use Rattle.sql_text.specs.declared.statement.Insert.{Insert}
 use Rattle.sql_text.specs.declared.statement.Select.{Select}
 use Rattle.sql_text.specs.declared.statement.SelectItems.{SelectItems}
+use Rattle.sql_text.specs.declared.statement.Update.{Update}
 use Rattle.stmt_plan.specs.declared.fault.StmtFault.{StmtFault}
-use Rattle.stmt_plan.specs.declared.fault.StmtFault.TheVariants.{NoColumn}
+use Rattle.stmt_plan.specs.declared.fault.StmtFault.TheVariants.{NoColumn, KeyChanged, TypeMismatch}
 use Rattle.stmt_plan.specs.Faults.{fault_of_check}
 use Rattle.stmt_plan.specs.Inserts.{targets, unknown_target, count_fault, rows_fault}
-use Rattle.stmt_plan.specs.Selects.{known_as, item_columns}
+use Rattle.stmt_plan.specs.Selects.{known_as, item_columns, where_columns}
+use Rattle.stmt_plan.specs.Settings.{assigned_columns, settings, sets_key, sets_fault, sets_fit}
 
 -- the first item whose column the table doesn't have
 abbrev pub items_fault : TableDef → SelectItems → Option StmtFault
@@ -33,3 +36,20 @@ abbrev pub stored_fault : TableDef → Insert → Option StmtFault
 stored_fault table insert =
     option_or (option_map NoColumn (unknown_target table.columns insert.columns))
     (option_or (count_fault table.columns (targets table.columns insert.columns) insert.rows) (rows_fault (targets table.columns insert.columns) 1 insert.rows))
+
+-- the first of these columns that the table, under its own name, doesn't have
+abbrev pub unknown_fault : TableDef → List ColumnName → Option StmtFault
+unknown_fault table names = option_map NoColumn (first_column (is_unknown (table ∷ [])) names)
+
+-- a condition, where there is one, on values that can be compared
+abbrev pub where_fits : TableDef → Option Cond → Bool
+where_fits table cond = option_map_or (cond_fits (table ∷ [])) cond true
+
+-- why an UPDATE can't be planned
+abbrev pub update_fault : TableDef → Update → Option StmtFault
+update_fault table update =
+    option_or (unknown_fault table (assigned_columns update.sets))
+    (option_or (unknown_fault table (where_columns update.cond))
+    (option_or (if sets_key table (settings table update.sets) then Some KeyChanged else None)
+    (option_or (sets_fault table (settings table update.sets))
+    (if sets_fit table (settings table update.sets) && where_fits table update.cond then None else Some TypeMismatch))))

@@ -1,5 +1,5 @@
 -- How refusals of single literals, names and conditions are told of a statement.
-use Rattle.std.specs.Prelude.{ℕ, List, [], ◌∷◌, Option, None}
+use Rattle.std.specs.Prelude.{ℕ, Bool, true, false, List, [], ◌∷◌, Option, None}
 use Rattle.std.specs.Option.{option_or}
 use Rattle.sql_values.specs.declared.checks.CheckFault.{CheckFault}
 use Rattle.sql_values.specs.declared.checks.CheckFault.TheVariants as check
@@ -14,6 +14,11 @@ fault_of_check (check.NoColumn name) = NoColumn name
 fault_of_check (check.Ambiguous name) = Ambiguous name
 fault_of_check check.TypeMismatch = TypeMismatch
 fault_of_check check.NoMemory = NoMemory
+
+-- types that don't go together, and no more
+abbrev pub is_mismatch : CheckFault → Bool
+is_mismatch check.TypeMismatch = true
+is_mismatch _ = false
 
 -- why the literal for this column in this row can't be stored, as a statement's fault
 abbrev pub fault_of_store : List ℕ → ℕ → StoreFault → StmtFault

@@ -7,4 +7,5 @@ pub mod Laws
 pub mod Plans
 pub mod Refusals
 pub mod Selects
+pub mod Settings
 pub mod Slots

@@ -1,5 +1,5 @@
 -- What a statement needs of its table's partitions.
-use Rattle.std.specs.Prelude.{◌≡◌, ℕ, ◌<◌, ◌^◌, ℤ, Bool, true, List, Option, Some, None, IsSomeAnd, length, map, slice_get}
+use Rattle.std.specs.Prelude.{◌≡◌, ℕ, ◌<◌, ◌^◌, ℤ, Bool, true, List, Option, Some, None, IsSomeAnd, length, map, slice_get, unwrap_or}
 use Rattle.std.specs.Option.{option_map, option_map_or}
 use Rattle.sql_values.specs.declared.places.LockMode.{LockMode}
 use Rattle.sql_values.specs.declared.places.LockMode.TheVariants.{Shared, Exclusive}
@@ -19,6 +19,7 @@ use Rattle.stmt_plan.specs.declared.planned.Work.{Work}
 use Rattle.stmt_plan.specs.declared.planned.Work.TheVariants as work
 use Rattle.stmt_plan.specs.Inserts.{rows_of, row_key, AreRising, in_keys}
 use Rattle.stmt_plan.specs.Selects.{known_as, known_name, picks_of, unqualified}
+use Rattle.stmt_plan.specs.Settings.{settings}
 
 -- a table's columns have different names, their places are numbers, and the key column is a BIGINT
 pub record IsTable (table : TableDef) : Type 0 where
@@ -26,16 +27,18 @@ pub record IsTable (table : TableDef) : Type 0 where
   pub few : length table.columns < 2 ^ 32
   pub key : IsSomeAnd (slice_get table.columns table.key) (λ (column : ColumnDef). column.kind ≡ BigInt)
 
--- rows that are to be added are locked against all others, rows that are read against writers
+-- rows that are to be added or changed, or to go, are locked against all others, rows that are read against writers, or as the SELECT says
 abbrev pub mode_of : Statement → LockMode
-mode_of (statement.Insert insert) = Exclusive
-mode_of (statement.Select select) = Shared
+mode_of (statement.Select select) = unwrap_or select.lock Shared
+mode_of _ = Exclusive
 
 -- what is done with the rows that are found
 abbrev pub work_of : TableDef → Statement → Work
 work_of table (statement.Insert insert) = work.Insert (rows_of table insert.columns insert.rows)
 work_of table (statement.Select select) =
     work.Select (record { table = known_name select.tab; picks = picks_of (known_as table select.tab) select.items })
+work_of table (statement.Update update) = work.Update (settings table update.sets)
+work_of table (statement.Delete delete) = work.Delete
 
 -- the condition asks for these keys, rising, without repeats
 pub record AsksForKeys (table : TableDef) (keys : List ℤ) (pushed : Option Cond) : Type 0 where
@@ -43,10 +46,12 @@ pub record AsksForKeys (table : TableDef) (keys : List ℤ) (pushed : Option Con
   pub rising : AreRising list keys
   pub in_list : pushed ≡ Some (in_keys table list)
 
--- an INSERT asks for its keys, a SELECT for the rows of its WHERE
+-- an INSERT asks for its keys, each other statement for the rows of its WHERE
 abbrev pub IsPushed : TableDef → Statement → Option Cond → Type 0
 IsPushed table (statement.Insert insert) pushed = AsksForKeys table (map (row_key table.key) (rows_of table insert.columns insert.rows)) pushed
 IsPushed table (statement.Select select) pushed = pushed ≡ option_map unqualified select.cond
+IsPushed table (statement.Update update) pushed = pushed ≡ option_map unqualified update.cond
+IsPushed table (statement.Delete delete) pushed = pushed ≡ option_map unqualified delete.cond
 
 -- whether a row with this key may be asked for
 abbrev pub keeps_key : TableDef → Option Cond → ℤ → Bool

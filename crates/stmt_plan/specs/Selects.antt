@@ -36,9 +36,13 @@ abbrev pub item_columns : SelectItems → List ColumnName
 item_columns items.All = []
 item_columns (items.Columns list) = map (λ (item : Item). item.column) list
 
+-- the columns that WHERE names, in the order of the text
+abbrev pub where_columns : Option Cond → List ColumnName
+where_columns where_cond = option_map_or cond_columns where_cond []
+
 -- the columns that the statement names: those of the items, then those of WHERE
 abbrev pub named_columns : SelectItems → Option Cond → List ColumnName
-named_columns list where_cond = item_columns list ++ option_map_or cond_columns where_cond []
+named_columns list where_cond = item_columns list ++ where_columns where_cond
 
 -- the place of the column that a name means
 abbrev pub place_of : TableDef → ColumnName → ℕ

@@ -1,14 +1,15 @@
-//! What a SELECT asks of its table, or why it is refused.
+//! What a SELECT asks of its table, or why it is refused; and the WHERE of every statement.
 
 ghost use Rattle.std.specs.Prelude.{◌≡◌, ◌⊎◌, ◌<◌, ◌^◌, true, false, [], ◌∷◌, map, length, None, Some, IfOk, IfErr, IfSome, OnOk, unwrap_or};
 ghost use Rattle.std.specs.List.{position};
 ghost use Rattle.std.specs.Option.{option_map};
 ghost use Rattle.sql_values.specs.Columns.{may_qualify, may_mean};
-ghost use Rattle.sql_values.specs.Checks.{first_column, is_unknown};
-ghost use Rattle.stmt_plan.specs.Chosen.{items_fault, cond_fault, where_fault, chosen_fault};
+ghost use Rattle.sql_values.specs.Checks.{first_column, is_unknown, cond_columns, cond_fits as do_fit};
+ghost use Rattle.stmt_plan.specs.Chosen.{items_fault, cond_fault, where_fault, chosen_fault, unknown_fault, where_fits as can_compare};
 ghost use Rattle.stmt_plan.specs.Plans.{IsTable};
-ghost use Rattle.stmt_plan.specs.Selects.{called, known_as, known_name as name_known, pick_of, all_picks, picks_of, unqualified as bare};
+ghost use Rattle.stmt_plan.specs.Selects.{called, known_as, known_name as name_known, pick_of, all_picks, picks_of, where_columns, unqualified as bare};
 
+use crate::fault::is_mismatch;
 use crate::unqualified::unqualified;
 use crate::{Pick, PickList, Picks, StmtFault};
 use list_types::Listed;
@@ -145,8 +146,56 @@ fn check_where(alloc: Global, table: &TableDef, known: &Name, cond: &Cond) -> Re
     }
 }
 
+/// Whether a condition is on values that can be compared; a column that the table, under its own name, doesn't have comes before.
+fn cond_fits(alloc: Global, table: &TableDef, cond: &Cond) -> Result<bool, StmtFault>
+    requires { IsTable table.now }
+    ensures fits { IfOk result (λ fits. fits ≡ do_fit (table.now ∷ []) cond.now) }
+    ensures known { OnOk result (unknown_fault table.now (cond_columns cond.now) ≡ None) }
+    ensures err { IfErr result (λ fault. (fault ≡ StmtFault.NoMemory) ⊎ (unknown_fault table.now (cond_columns cond.now) ≡ Some fault)) }
+{
+    let tables = only(alloc, table, &table.name)?;
+    match check_cond(alloc, cond, &tables) {
+        Ok(()) => Ok(true),
+        Err(fault) => {
+            if is_mismatch(&fault) {
+                Ok(false)
+            } else {
+                Err(StmtFault::from(fault))
+            }
+        }
+    }
+}
+
+/// Whether the condition, where there is one, is on values that can be compared; columns that the table, under its own name, doesn't have come before.
+#[tactic(auto, using(crate::proofs::Seeks::seeks))]
+pub(crate) fn where_fits(
+    alloc: Global,
+    table: &TableDef,
+    cond: &Option<Cond>,
+) -> Result<bool, StmtFault>
+    requires { IsTable table.now }
+    ensures fits { IfOk result (λ fits. fits ≡ can_compare table.now cond.now) }
+    ensures known { OnOk result (unknown_fault table.now (where_columns cond.now) ≡ None) }
+    ensures err { IfErr result (λ fault. (fault ≡ StmtFault.NoMemory) ⊎ (unknown_fault table.now (where_columns cond.now) ≡ Some fault)) }
+{
+    match cond {
+        Some(cond) => cond_fits(alloc, table, cond),
+        None => Ok(true),
+    }
+}
+
+/// The condition without qualifiers.
+pub(crate) fn bare_where(alloc: Global, cond: &Option<Cond>) -> Result<Option<Cond>, AllocError>
+    ensures { IfOk result (λ pushed. pushed ≡ option_map bare cond.now) }
+{
+    match cond {
+        Some(cond) => Ok(Some(unqualified(alloc, cond)?)),
+        None => Ok(None),
+    }
+}
+
 /// The condition without qualifiers, or why it is refused.
-fn asked(
+pub(crate) fn asked(
     alloc: Global,
     table: &TableDef,
     known: &Name,

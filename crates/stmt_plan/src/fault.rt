@@ -1,3 +1,6 @@
+ghost use Rattle.std.specs.Prelude.{◌≡◌};
+ghost use Rattle.stmt_plan.specs.Faults.{is_mismatch as is_mismatch_alone};
+
 use sql_values::{CheckFault, Name};
 use std::alloc::{AllocError, AllocFailed};
 use thiserror::Error;
@@ -11,6 +14,9 @@ pub enum StmtFault {
     /// More than one column may be meant by this name.
     #[error("column {0} is ambiguous")]
     Ambiguous(Name),
+    /// The key column is set.
+    #[error("the key column is set")]
+    KeyChanged,
     /// The list of columns doesn't have each column once, which is told at row 1, or a row has another number of values.
     #[error("another number of values at row {row}")]
     ColumnCount { row: u64 },
@@ -32,6 +38,20 @@ pub enum StmtFault {
     /// There wasn't enough memory.
     #[error("out of memory")]
     NoMemory,
+}
+
+/// Why an UPDATE can't change a row. Rows count from 1, in the order of their keys.
+#[derive(Debug, Drop, Error)]
+pub enum RowFault {
+    /// A literal or a partial result of an expression is outside the range of a BIGINT.
+    #[error("an expression is out of range")]
+    Arithmetic,
+    /// A number outside the range of a BIGINT, for this column.
+    #[error("out of range for column {column} at row {row}")]
+    OutOfRange { column: Name, row: u64 },
+    /// A text that is longer than this column allows.
+    #[error("too long for column {column} at row {row}")]
+    TooLong { column: Name, row: u64 },
 }
 
 impl From<AllocError> for StmtFault {
@@ -69,5 +89,17 @@ impl From<CheckFault> for StmtFault {
             CheckFault::TypeMismatch => StmtFault::TypeMismatch,
             CheckFault::NoMemory => StmtFault::NoMemory,
         }
+    }
+}
+
+/// Whether a check found no more than types that don't go together.
+pub(crate) fn is_mismatch(fault: &CheckFault) -> bool
+    ensures { result ≡ is_mismatch_alone fault.now }
+{
+    match fault {
+        CheckFault::TypeMismatch => true,
+        CheckFault::NoColumn(_) => false,
+        CheckFault::Ambiguous(_) => false,
+        CheckFault::NoMemory => false,
     }
 }

@@ -147,7 +147,7 @@ fn fits_text(most: u32, text: &str) -> bool
 }
 
 /// Why a literal can't be stored in a column of this kind. It takes no memory.
-fn why_not(literal: &Literal, kind: Kind) -> Option<StoreFault>
+pub(crate) fn why_not(literal: &Literal, kind: Kind) -> Option<StoreFault>
     ensures { result ≡ result_err (stored literal.now kind) }
 {
     match (literal, kind) {

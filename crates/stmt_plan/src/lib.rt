@@ -2,7 +2,8 @@
 //!
 //! [`plan_on`] takes a statement and the table that it names. A statement that breaks a rule is refused with the first such rule, in a fixed order
 //! (`specs/Refusals.antt`). Else its [`Plan`] says which partitions are asked, with what condition, for which keys and with which locks, and what
-//! is done with the answers (`specs/Plans.antt`): an INSERT has its rows, as they are stored, a SELECT has the columns that it asks for.
+//! is done with the answers (`specs/Plans.antt`): an INSERT has its rows, as they are stored, a SELECT has the columns that it asks for, an UPDATE has the
+//! columns that it sets, and a DELETE nothing more.
 //!
 //! The condition of a plan names columns without their table, as a partition's own table has another name. [`laws`] say that this changes nothing, and
 //! that the partitions of a plan are enough.
@@ -15,13 +16,16 @@ mod key_conditions;
 pub mod laws;
 mod planned;
 mod planning;
+mod setting;
 mod tables;
 mod unqualified;
 
-pub use fault::StmtFault;
-pub use planned::{Pick, PickList, Picks, Plan, Work};
+pub use fault::{RowFault, StmtFault};
+pub use planned::{Pick, PickList, Picks, Plan, SetColumn, SetColumns, Work};
 pub use planning::plan_on;
 pub use tables::is_table;
 
 #[cfg(test)]
 mod tests;
+#[cfg(test)]
+mod write_tests;

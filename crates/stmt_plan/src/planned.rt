@@ -1,6 +1,6 @@
 use list_types::Listed;
 use sql_text::ScanItems;
-use sql_values::{Cond, Intervals, LockMode, Name, PartNos, Rows, TableNo};
+use sql_values::{Cond, Expr, Intervals, LockMode, Name, PartNos, Rows, TableNo};
 
 /// What a statement needs of the partitions of its table.
 #[derive(Debug, Drop)]
@@ -22,13 +22,27 @@ pub struct Plan {
 }
 
 /// What is done with the rows that the partitions give.
-#[derive(Clone, Debug, PartialEq, Eq, Drop)]
+#[derive(Debug, Drop)]
 pub enum Work {
     /// These rows are added, in the order of the statement. Each has a value for each column of the table, in the table's order.
     Insert(Rows),
     /// These columns of the rows are the answer.
     Select(Picks),
+    /// These columns of the rows are set, one after the other.
+    Update(SetColumns),
+    /// The rows go.
+    Delete,
 }
+
+/// A column that an UPDATE sets: its place in the table, and the expression that gives its value.
+#[derive(Debug, Drop)]
+pub struct SetColumn {
+    pub column: u32,
+    pub value: Expr,
+}
+
+/// Columns that are set, in order. A later one sees what the earlier ones set.
+pub type SetColumns = Listed<SetColumn>;
 
 /// The columns of a SELECT's answer, and the name by which the statement knows its table.
 #[derive(Clone, Debug, PartialEq, Eq, Drop)]

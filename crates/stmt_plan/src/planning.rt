@@ -6,15 +6,16 @@ ghost use Rattle.part_rules.specs.Placing.{IsRule};
 ghost use Rattle.stmt_plan.specs.Chosen.{stored_fault};
 ghost use Rattle.stmt_plan.specs.Finished.{IsFinished};
 ghost use Rattle.stmt_plan.specs.Inserts.{rows_of, row_key, unplaced};
-ghost use Rattle.stmt_plan.specs.Plans.{IsTable, AsksForKeys, IsPlan, IsPushed, keeps_key};
+ghost use Rattle.stmt_plan.specs.Plans.{IsTable, AsksForKeys, IsPlan, IsPushed, keeps_key, mode_of, work_of};
 ghost use Rattle.stmt_plan.specs.Refusals.{refusal};
 
-use crate::choosing::choose;
+use crate::choosing::{asked, choose};
 use crate::inserting::{check_rows, count_rows, slots, stored_rows, targets};
 use crate::key_conditions::{key_condition, keys_of_rows, place_keys};
+use crate::setting::set;
 use crate::{Plan, StmtFault, Work};
 use part_rules::{Rule, keys_of, prune};
-use sql_text::{Insert, ScanItems, Statement};
+use sql_text::{Insert, ScanItems, Select, Statement};
 use sql_values::{Cond, Intervals, LockMode, Row, Rows, TableDef, TableNo};
 use std::alloc::{AllocError, Global};
 
@@ -102,11 +103,80 @@ fn planned(
     })
 }
 
+/// What a statement asks for: of which rows, how these are locked, and what is done with them.
+#[derive(Drop)]
+struct Demand {
+    cond: Option<Cond>,
+    mode: LockMode,
+    work: Work,
+}
+
+/// How a SELECT locks the rows that it reads.
+fn select_mode(select: &Select) -> LockMode
+    ensures { result ≡ mode_of (Statement.Select select.now) }
+{
+    select.lock.unwrap_or(LockMode::Shared)
+}
+
+/// What a statement asks for, or the first rule that it breaks.
+fn demanded(
+    alloc: Global,
+    table: &TableDef,
+    rule: &Rule,
+    statement: &Statement,
+) -> Result<Demand, StmtFault>
+    requires rule { IsRule rule.now }
+    requires table { IsTable table.now }
+    ensures cond { IfOk result (λ demand. IsPushed table.now statement.now demand.cond) }
+    ensures mode { IfOk result (λ demand. demand.mode ≡ mode_of statement.now) }
+    ensures work { IfOk result (λ demand. demand.work ≡ work_of table.now statement.now) }
+    ensures ok { OnOk result (refusal table.now rule.now statement.now ≡ None) }
+    ensures err { IfErr result (λ fault. (fault ≡ StmtFault.NoMemory) ⊎ (refusal table.now rule.now statement.now ≡ Some fault)) }
+{
+    match statement {
+        Statement::Insert(statement) => {
+            let (cond, rows) = insert(alloc, table, rule, statement)?;
+            let mode = LockMode::Exclusive;
+            Ok(Demand {
+                cond: Some(cond),
+                mode,
+                work: Work::Insert(rows),
+            })
+        }
+        Statement::Select(statement) => match choose(alloc, table, statement) {
+            Ok((cond, picks)) => Ok(Demand {
+                cond,
+                mode: select_mode(statement),
+                work: Work::Select(picks),
+            }),
+            Err(fault) => Err(fault),
+        },
+        Statement::Update(statement) => match set(alloc, table, statement) {
+            Ok((cond, sets)) => Ok(Demand {
+                cond,
+                mode: LockMode::Exclusive,
+                work: Work::Update(sets),
+            }),
+            Err(fault) => Err(fault),
+        },
+        Statement::Delete(statement) => match asked(alloc, table, &table.name, &statement.cond) {
+            Ok(cond) => Ok(Demand {
+                cond,
+                mode: LockMode::Exclusive,
+                work: Work::Delete,
+            }),
+            Err(fault) => Err(fault),
+        },
+    }
+}
+
 /// The plan of a statement on this table, whose number is handed on, or the first rule that it breaks.
 ///
-/// The rules are, in this order: a column that the table doesn't have, one that may be one of several, a row with another number of values than
-/// columns, then by row and by column in the order of the statement NULL, a value of another type, a number out of range, a text too long, then a row
-/// whose key no partition takes, then a condition on values that can't be compared. Names of the table itself aren't compared: the caller has found it.
+/// The rules are, in this order: a column that the table doesn't have, one that may be one of several, an UPDATE of the key column, a row with another
+/// number of values than columns, then by row and by column in the order of the statement NULL, a value of another type, a number out of range, a text too
+/// long, then a row whose key no partition takes, then a condition on values that can't be compared, or an expression of another type than the column that it
+/// is for. Of what an UPDATE sets, the literals that stand alone are values, and only NULL and another type are told here: their range and length are told
+/// of a row as it runs. The table's own name isn't compared with the statement's: the caller has found it.
 ///
 /// The cost of an INSERT is that of sorting its keys, beside one look at each of its values; names are looked up once.
 pub fn plan_on(
@@ -122,26 +192,6 @@ pub fn plan_on(
     ensures ok { OnOk result (refusal table.now rule.now statement.now ≡ None) }
     ensures err { IfErr result (λ fault. (fault ≡ StmtFault.NoMemory) ⊎ (refusal table.now rule.now statement.now ≡ Some fault)) }
 {
-    match statement {
-        Statement::Insert(statement) => {
-            let (cond, rows) = insert(alloc, table, rule, statement)?;
-            let mode = LockMode::Exclusive;
-            Ok(planned(
-                alloc,
-                number,
-                table,
-                rule,
-                Some(cond),
-                mode,
-                Work::Insert(rows),
-            )?)
-        }
-        Statement::Select(statement) => match choose(alloc, table, statement) {
-            Ok((cond, picks)) => {
-                let mode = LockMode::Shared;
-                Ok(planned(alloc, number, table, rule, cond, mode, Work::Select(picks))?)
-            }
-            Err(fault) => Err(fault),
-        },
-    }
+    let Demand { cond, mode, work } = demanded(alloc, table, rule, statement)?;
+    Ok(planned(alloc, number, table, rule, cond, mode, work)?)
 }

@@ -7,14 +7,14 @@ use sql_text::{Statement, parse};
 use sql_values::{ColumnDef, Kind, LockMode, Name, PartNo, Row, Rows, TableDef, Value};
 use std::test::*;
 
-fn name(rt: &HostRuntime, text: &str) -> Result<Name, Fail> {
+pub(crate) fn name(rt: &HostRuntime, text: &str) -> Result<Name, Fail> {
     match Name::from_text(Text::from_str(rt.alloc(), text)?) {
         Ok(name) => Ok(name),
         Err(_) => Err(Fail::from("no name")),
     }
 }
 
-fn column(rt: &HostRuntime, text: &str, kind: Kind) -> Result<ColumnDef, Fail> {
+pub(crate) fn column(rt: &HostRuntime, text: &str, kind: Kind) -> Result<ColumnDef, Fail> {
     Ok(ColumnDef {
         name: name(rt, text)?,
         kind,
@@ -34,7 +34,7 @@ fn table(rt: &HostRuntime) -> Result<TableDef, Fail> {
 }
 
 // below 0, and from there up to below 100
-fn two_parts(rt: &HostRuntime) -> Result<Rule, Fail> {
+pub(crate) fn two_parts(rt: &HostRuntime) -> Result<Rule, Fail> {
     let mut bounds = Listed::new(rt.alloc());
     bounds.push(Bound::Below(0))?;
     bounds.push(Bound::Below(100))?;
@@ -44,14 +44,14 @@ fn two_parts(rt: &HostRuntime) -> Result<Rule, Fail> {
     }
 }
 
-fn statement(rt: &HostRuntime, text: &[u8]) -> Result<Statement, Fail> {
+pub(crate) fn statement(rt: &HostRuntime, text: &[u8]) -> Result<Statement, Fail> {
     match parse(rt.alloc(), text) {
         Ok(statement) => Ok(statement),
         Err(_) => Err(Fail::from("no statement")),
     }
 }
 
-fn plan_with(
+pub(crate) fn plan_with(
     rt: &HostRuntime,
     table: &TableDef,
     rule: &Rule,
@@ -75,6 +75,7 @@ fn number(fault: &StmtFault) -> (u16, u64) {
     match fault {
         StmtFault::NoColumn(_) => (1054, 0),
         StmtFault::Ambiguous(_) => (1052, 0),
+        StmtFault::KeyChanged => (14009, 0),
         StmtFault::ColumnCount { row } => (1136, *row),
         StmtFault::IsNull(_) => (1048, 0),
         StmtFault::TypeMismatch => (14020, 0),
@@ -95,6 +96,12 @@ fn fault_column(fault: &StmtFault) -> &str {
     }
 }
 
+// the number that is told, the row where one is, and the column
+pub(crate) fn is_told(fault: &StmtFault, told: (u16, u64), column: &str) -> bool {
+    let found = number(fault);
+    found.0 == told.0 && found.1 == told.1 && fault_column(fault) == column
+}
+
 fn is_refused(
     rt: &HostRuntime,
     rule: &Rule,
@@ -104,10 +111,7 @@ fn is_refused(
 ) -> Result<bool, Fail> {
     match planned(rt, text, rule)? {
         Ok(_) => Ok(told.0 == 0),
-        Err(fault) => {
-            let found = number(&fault);
-            Ok(found.0 == told.0 && found.1 == told.1 && fault_column(&fault) == column)
-        }
+        Err(fault) => Ok(is_told(&fault, told, column)),
     }
 }
 
@@ -181,7 +185,7 @@ fn refusals_in_order(rt: HostRuntime) -> Result<(), Fail> {
     Ok(())
 }
 
-fn has_places(plan: &Plan, parts: &[PartNo], keys: &[(i64, i64)]) -> bool {
+pub(crate) fn has_places(plan: &Plan, parts: &[PartNo], keys: &[(i64, i64)]) -> bool {
     if plan.parts.as_slice() != parts || plan.keys.as_slice().len() != keys.len() {
         return false;
     }
@@ -194,7 +198,7 @@ fn has_places(plan: &Plan, parts: &[PartNo], keys: &[(i64, i64)]) -> bool {
 }
 
 // The condition is that of this statement.
-fn has_cond_of(rt: &HostRuntime, plan: &Plan, text: &[u8]) -> Result<bool, Fail> {
+pub(crate) fn has_cond_of(rt: &HostRuntime, plan: &Plan, text: &[u8]) -> Result<bool, Fail> {
     match (statement(rt, text)?, &plan.cond) {
         (Statement::Select(select), Some(cond)) => match &select.cond {
             Some(other) => Ok(cond.is_same(other)),
@@ -223,7 +227,7 @@ fn three_rows(rt: &HostRuntime) -> Result<Rows, Fail> {
 fn inserts(plan: &Plan, rows: &Rows) -> bool {
     match &plan.work {
         Work::Insert(stored) => *stored == *rows && plan.mode == LockMode::Exclusive,
-        Work::Select(_) => false,
+        _ => false,
     }
 }
 
@@ -264,7 +268,7 @@ fn picks(plan: &Plan, table: &str) -> bool {
             }
             _ => false,
         },
-        Work::Insert(_) => false,
+        _ => false,
     }
 }
 

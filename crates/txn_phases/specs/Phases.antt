@@ -1,5 +1,5 @@
 -- The phases of a statement's transaction: what an answer makes of it.
-use Rattle.std.specs.Prelude.{ℕ, ℤ, zero, suc, ◌+◌, Bool, true, false, ◌&&◌, List, [], ◌∷◌, ◌++◌, Option, Some, None, map, length, nat_lt, get_or, slice_get, if◌then◌else◌}
+use Rattle.std.specs.Prelude.{ℕ, ℤ, zero, suc, ◌+◌, Bool, true, false, ◌&&◌, List, [], ◌∷◌, ◌++◌, Option, Some, None, Result, Ok, Err, map, length, nat_lt, get_or, slice_get, if◌then◌else◌}
 use Rattle.std.specs.List.{filter, flat_map, list_all}
 use Rattle.std.specs.Option.{option_or, option_map_or}
 use Rattle.std.specs.Cmp.Lexicographic.{pointwise}
@@ -7,19 +7,20 @@ use Rattle.sql_values.specs.declared.table.Kind.{Kind}
 use Rattle.sql_values.specs.declared.value.Value.{Value}
 use Rattle.sql_values.specs.declared.value.Value.TheVariants as value
 use Rattle.sql_values.specs.Laws.{is_of}
+use Rattle.part_rules.specs.declared.rule.Rule.{Rule}
 use Rattle.sql_text.specs.declared.link.LinkAnswer.{LinkAnswer}
 use Rattle.sql_text.specs.declared.link.LinkAnswer.TheVariants as answer
 use Rattle.sql_text.specs.declared.link.LinkRequest.{LinkRequest}
 use Rattle.sql_text.specs.declared.link.LinkRequest.TheVariants as request
 use Rattle.sql_text.specs.declared.link.ScanItems.TheVariants as items
+use Rattle.stmt_plan.specs.declared.fault.RowFault.{RowFault}
+use Rattle.txn_phases.specs.declared.changing.Changing.{Changing}
 use Rattle.txn_phases.specs.declared.deed.Deed.{Deed}
 use Rattle.txn_phases.specs.declared.deed.Deed.TheVariants as deed
 use Rattle.txn_phases.specs.declared.deed.Outcome.{Outcome}
 use Rattle.txn_phases.specs.declared.deed.Outcome.TheVariants as outcome
 use Rattle.txn_phases.specs.declared.deed.PlacedRow.{PlacedRow}
 use Rattle.txn_phases.specs.declared.deed.Refusal.{Refusal}
-use Rattle.txn_phases.specs.declared.inserting.Inserting.{Inserting}
-use Rattle.txn_phases.specs.declared.inserting.Inserting.TheVariants as inserting_is
 use Rattle.txn_phases.specs.declared.job.Job.{Job}
 use Rattle.txn_phases.specs.declared.job.TableScan.{TableScan}
 use Rattle.txn_phases.specs.declared.owed.Owed.{Owed}
@@ -33,10 +34,13 @@ use Rattle.txn_phases.specs.declared.phase.Progress.TheVariants.{Waits, Asks, De
 use Rattle.txn_phases.specs.declared.phase.Stage.{Stage}
 use Rattle.txn_phases.specs.declared.phase.Stage.TheVariants as stage
 use Rattle.txn_phases.specs.declared.phase.Target.{Target}
+use Rattle.txn_phases.specs.declared.partitions.PlacedKey.{PlacedKey}
 use Rattle.txn_phases.specs.declared.requests.Ask.{Ask}
 use Rattle.txn_phases.specs.declared.requests.Word.{Word}
 use Rattle.txn_phases.specs.declared.requests.Word.TheVariants as word
-use Rattle.txn_phases.specs.Deeds.{merged_within, taken_key, news_in, writes_too_much}
+use Rattle.txn_phases.specs.declared.writing.Writing.{Writing}
+use Rattle.txn_phases.specs.declared.writing.Writing.TheVariants as writing
+use Rattle.txn_phases.specs.Deeds.{merged_within, taken_key, news_in, writes_too_much, placed_keys, changes_of, keys_in, deletes_too_much}
 
 -- a statement that was not begun yet
 abbrev pub new_job : List Branch → List Target → TableScan → Deed → Job
@@ -117,6 +121,14 @@ put_of t (row ∷ rows) = record { server = t.server; request = request.Put t.re
 abbrev pub puts_of : List Target → List PlacedRow → List Ask
 puts_of targets news = flat_map (λ (t : Target). put_of t (news_in news t.part)) targets
 
+abbrev pub del_of : List ℕ → Target → List ℤ → List Ask
+del_of key t [] = []
+del_of key t (k ∷ keys) = record { server = t.server; request = request.Del t.remote key (k ∷ keys) } ∷ []
+
+-- each link is to have no rows with its partition's keys, by the name of the key column; no request goes out for none
+abbrev pub dels_of : List ℕ → List Target → List PlacedKey → List Ask
+dels_of key targets keys = flat_map (λ (t : Target). del_of key t (keys_in keys t.part)) targets
+
 -- THE PHASES
 
 -- the branches whose START was done
@@ -161,21 +173,52 @@ abbrev pub selects : Job → Option (List (List Value)) → Job × Progress
 selects job None = gives_up job outcome.AnswerLimit
 selects job (Some rows) = ends job (outcome.Found rows)
 
-abbrev pub inserting_by : List Target → List PlacedRow → Option ℤ → Inserting
-inserting_by targets news (Some key) = inserting_is.Refused (outcome.Duplicate key)
-inserting_by targets news None = if writes_too_much targets news then inserting_is.Refused outcome.WriteSetLimit else inserting_is.Writes (outcome.Inserted (length news)) (puts_of targets news)
+-- each link gets its partition's rows, unless they are too many
+abbrev pub putting : List Target → List PlacedRow → Writing
+putting targets news = if writes_too_much targets news then writing.Refused outcome.WriteSetLimit else writing.Writes (outcome.Done (length news)) (puts_of targets news)
 
--- a new key that is taken gives an INSERT up, and so do too many rows; else each link gets its partition's rows
-abbrev pub inserting : List Target → ℕ → List (List (List Value)) → List PlacedRow → Inserting
+-- a new key that is taken gives an INSERT up
+abbrev pub inserting_by : List Target → List PlacedRow → Option ℤ → Writing
+inserting_by targets news (Some key) = writing.Refused (outcome.Duplicate key)
+inserting_by targets news None = putting targets news
+
+abbrev pub inserting : List Target → ℕ → List (List (List Value)) → List PlacedRow → Writing
 inserting targets place found news = inserting_by targets news (taken_key place found news)
 
-abbrev pub inserts : Job → Inserting → Job × Progress
-inserts job (inserting_is.Refused o) = gives_up job o
-inserts job (inserting_is.Writes o asks) = writes_by job o asks
+-- a row that can't be changed gives an UPDATE up; else the rows that change are put
+abbrev pub updating_by : List Target → Result (List PlacedRow) RowFault → Writing
+updating_by targets (Err fault) = writing.Refused (outcome.RowRefused fault)
+updating_by targets (Ok news) = putting targets news
+
+abbrev pub updating_found : List Target → Changing → List (List Value) → Writing
+updating_found targets changing found = updating_by targets (changes_of changing found)
+
+-- of the rows that were found, where they are no more than an answer may have
+abbrev pub updating : List Target → Changing → Option (List (List Value)) → Writing
+updating targets changing None = writing.Refused outcome.AnswerLimit
+updating targets changing (Some found) = updating_found targets changing found
+
+-- the keys of so many rows go to their links, unless they are too many
+abbrev pub deleting_keys : List Target → TableScan → ℕ → List PlacedKey → Writing
+deleting_keys targets scan count keys = if deletes_too_much targets keys then writing.Refused outcome.WriteSetLimit else writing.Writes (outcome.Done count) (dels_of scan.key targets keys)
+
+abbrev pub deleting_found : List Target → TableScan → Rule → List (List Value) → Writing
+deleting_found targets scan rule found = deleting_keys targets scan (length found) (placed_keys rule scan.place found)
+
+abbrev pub deleting : List Target → TableScan → Rule → Option (List (List Value)) → Writing
+deleting targets scan rule None = writing.Refused outcome.AnswerLimit
+deleting targets scan rule (Some found) = deleting_found targets scan rule found
+
+-- the statement is given up, or what it writes goes out
+abbrev pub writes : Job → Writing → Job × Progress
+writes job (writing.Refused o) = gives_up job o
+writes job (writing.Writes o asks) = writes_by job o asks
 
 abbrev pub concluded_by : Job → Deed → Job × Progress
 concluded_by job deed.Select = selects job (merged_within job.scan.place job.found)
-concluded_by job (deed.Insert news) = inserts job (inserting job.targets job.scan.place job.found news)
+concluded_by job (deed.Insert news) = writes job (inserting job.targets job.scan.place job.found news)
+concluded_by job (deed.Update changing) = writes job (updating job.targets changing (merged_within job.scan.place job.found))
+concluded_by job (deed.Delete rule) = writes job (deleting job.targets job.scan rule (merged_within job.scan.place job.found))
 
 abbrev pub concluded : Job → Job × Progress
 concluded job = concluded_by job job.deed

@@ -7,13 +7,15 @@ ghost use Rattle.std.specs.Ordering.{int_cmp, int_eq};
 ghost use Rattle.sql_values.specs.Storing.{row_size};
 ghost use Rattle.txn_phases.specs.declared.deed.PlacedRow.{PlacedRow};
 
-use crate::Target;
+use crate::partitions::key_of;
+use crate::{Changing, Placing};
 use list_types::{Listed, Text};
-use sql_values::{PartNo, Row, Rows, ServerNo, Value, size};
+use sql_values::{PartNo, Row, Rows, ServerNo};
 use std::alloc::{AllocError, Global};
 use std::collections::{BTreeMap, BTreeSet};
+use stmt_plan::RowFault;
 
-/// A row that is to be added, with its key and the partition in which it lies.
+/// A row that is to be put, with its key and the partition in which it lies.
 #[derive(Clone, Debug, PartialEq, Eq, Drop)]
 pub struct PlacedRow {
     pub part: PartNo,
@@ -21,16 +23,20 @@ pub struct PlacedRow {
     pub row: Row,
 }
 
-/// Rows that are to be added, in the order of the statement.
+/// Rows that are to be put: of an INSERT in the order of the statement, of an UPDATE in that of their keys.
 pub type PlacedRows = Listed<PlacedRow>;
 
 /// What a statement does with the rows that its scans found.
-#[derive(Clone, Debug, PartialEq, Eq, Drop)]
+#[derive(Debug, Drop)]
 pub enum Deed {
     /// They are the answer.
     Select,
     /// These rows are added, unless a row with the key of one of them was found.
     Insert(PlacedRows),
+    /// Columns of them are set.
+    Update(Changing),
+    /// They go, by their keys.
+    Delete(Placing),
 }
 
 /// A backend's refusal.
@@ -46,30 +52,22 @@ pub struct Refusal {
 }
 
 /// How a statement came out.
-#[derive(Clone, Debug, PartialEq, Eq, Drop)]
+#[derive(Debug, Drop)]
 pub enum Outcome {
     /// These rows were found, in the order of their keys.
     Found(Rows),
-    /// So many rows were added.
-    Inserted(u64),
-    /// A row with this key is there already, or two rows have it. No row was added.
+    /// So many rows were added, or were changed, or went.
+    Done(u64),
+    /// A row with this key is there already, or two rows have it. Nothing was written.
     Duplicate(i64),
-    /// More than 100,000 rows were found, or more than 64 MiB of them.
+    /// This row can't be changed as the statement says. Nothing was written.
+    RowRefused(RowFault),
+    /// More than 100,000 rows were found, or more than 64 MiB of them. Nothing was written.
     AnswerLimit,
-    /// More than 10,000 rows would be written at a server, or more than 4 MiB of them. No row was added.
+    /// More than 10,000 rows would be written at a server, or more than 4 MiB of them. Nothing was written.
     WriteSetLimit,
-    /// A backend refused a request. No row was added.
+    /// A backend refused a request. Nothing was written.
     Refused(Refusal),
-}
-
-/// The number in that column of a row.
-fn key_of(row: &Row, place: u32) -> i64
-    ensures { result ≡ key_at place row.now }
-{
-    match row.as_slice().get(place as usize) {
-        Some(Value::Number(key)) => *key,
-        _ => 0,
-    }
 }
 
 fn copied(row: &Row) -> Result<Row, AllocError>

@@ -2,10 +2,10 @@ ghost use Rattle.std.specs.Prelude.{◌≡◌};
 ghost use Rattle.txn_phases.specs.Phases.{is_begun as begins_branch, stage_of};
 
 use crate::forms::{is_done, is_rows};
-use crate::inserting::{Inserting, plan_insert};
-use crate::merging::merged_within;
+use crate::merging::take_merged;
 use crate::owed::{Owed, mark};
 use crate::requests::{Asks, Word, scans, servers_of, to_all, to_begun};
+use crate::writing::{Writing, plan_delete, plan_insert, plan_update};
 use crate::{Branches, Deed, Ending, Outcome, Phase, Progress, Refusal, Stage, Targets};
 use list_types::Listed;
 use sql_text::LinkAnswer;
@@ -98,9 +98,8 @@ impl Phase {
 
 impl Job {
     ghost use Rattle.std.specs.Prelude.{◌≡◌, ◌+◌, ◌-◌, ◌<◌, [], true, length, max, nat_le, IfOk, OnErr, Some, None};
-    ghost use Rattle.txn_phases.specs.Phases.{new_job, awaited, awaits as may_come, counts_at, marked, with_branches, with_found, rows_if, with_refusal, keeps, noted, owed_of, owed_noted, entering, asking, finished, gives_up as gives_up_by_rule, ends as ends_by_rule, selects as selects_by_rule, inserts as inserts_by_rule, owed_at, concluded, decided, follows, leaves, goes_on as goes_on_by_rule, hears, begins, server_at};
+    ghost use Rattle.txn_phases.specs.Phases.{new_job, awaited, awaits as may_come, counts_at, marked, with_branches, with_found, rows_if, with_refusal, keeps, noted, owed_of, owed_noted, entering, asking, finished, gives_up as gives_up_by_rule, ends as ends_by_rule, selects as selects_by_rule, writes as writes_by_rule, owed_at, concluded, decided, follows, leaves, goes_on as goes_on_by_rule, hears, begins, server_at};
     ghost use Rattle.txn_phases.specs.declared.phase.Stage.{Stage};
-    ghost use Rattle.txn_phases.specs.Deeds.{merged_within as merged_meant};
 
     /// A statement that is to scan these links, at these servers: each server of a link has its branch, none of which is begun. It takes no memory.
     pub fn new(
@@ -287,26 +286,25 @@ impl Job {
         self.ask(alloc, Phase::Ending(outcome), asks)
     }
 
-    /// The rows that were found are the answer, unless they are too many.
-    fn select(&mut self, alloc: Global) -> Result<Progress, AllocError>
-        ensures selects { IfOk result (λ progress. (self.new, progress) ≡ selects_by_rule self.old (merged_meant self.old.scan.place self.old.found)) }
-        ensures owed { OnErr result ((stage : Stage) → owed_at stage self.new ≡ owed_at stage self.old) }
+    /// The rows that were found are the answer; of None, too many, the statement is given up.
+    fn select(&mut self, alloc: Global, rows: Option<Rows>) -> Result<Progress, AllocError>
+        ensures selects { IfOk result (λ progress. (self.new, progress) ≡ selects_by_rule self.old rows) }
+        ensures unchanged { OnErr result (self.new ≡ self.old) }
     {
-        let found = mem::replace(&mut self.found, Listed::new(alloc));
-        match merged_within(alloc, found, self.scan.place)? {
+        match rows {
             Some(rows) => self.end(alloc, Outcome::Found(rows)),
             None => self.give_up(alloc, Outcome::AnswerLimit),
         }
     }
 
-    /// Rows are added, or the statement is given up.
-    fn insert(&mut self, alloc: Global, inserting: Inserting) -> Result<Progress, AllocError>
-        ensures inserts { IfOk result (λ progress. (self.new, progress) ≡ inserts_by_rule self.old inserting) }
+    /// What is to be written is written, or the statement is given up.
+    fn write(&mut self, alloc: Global, writing: Writing) -> Result<Progress, AllocError>
+        ensures writes { IfOk result (λ progress. (self.new, progress) ≡ writes_by_rule self.old writing) }
         ensures unchanged { OnErr result (self.new ≡ self.old) }
     {
-        match inserting {
-            Inserting::Refused(outcome) => self.give_up(alloc, outcome),
-            Inserting::Writes { outcome, asks } => {
+        match writing {
+            Writing::Refused(outcome) => self.give_up(alloc, outcome),
+            Writing::Writes { outcome, asks } => {
                 if asks.is_empty() {
                     return self.end(alloc, outcome);
                 }
@@ -320,17 +318,39 @@ impl Job {
         ensures concluded { IfOk result (λ progress. (self.new, progress) ≡ concluded self.old) }
         ensures owed { OnErr result ((stage : Stage) → owed_at stage self.new ≡ owed_at stage self.old) }
     {
-        let inserting = match &self.deed {
-            Deed::Select => return self.select(alloc),
-            Deed::Insert(news) => plan_insert(
-                alloc,
-                self.targets.as_slice(),
-                self.scan.place,
-                self.found.as_slice(),
-                news.as_slice(),
-            )?,
-        };
-        self.insert(alloc, inserting)
+        let place = self.scan.place;
+        match &self.deed {
+            Deed::Select => {
+                let rows = take_merged(alloc, &mut self.found, place)?;
+                self.select(alloc, rows)
+            }
+            Deed::Insert(news) => {
+                let writing = plan_insert(
+                    alloc,
+                    self.targets.as_slice(),
+                    place,
+                    self.found.as_slice(),
+                    news.as_slice(),
+                )?;
+                self.write(alloc, writing)
+            }
+            Deed::Update(changing) => {
+                let rows = take_merged(alloc, &mut self.found, place)?;
+                let writing = plan_update(alloc, self.targets.as_slice(), changing, rows)?;
+                self.write(alloc, writing)
+            }
+            Deed::Delete(placing) => {
+                let rows = take_merged(alloc, &mut self.found, place)?;
+                let writing = plan_delete(
+                    alloc,
+                    self.targets.as_slice(),
+                    &self.scan,
+                    placing,
+                    rows,
+                )?;
+                self.write(alloc, writing)
+            }
+        }
     }
 
     /// The transaction is decided.

@@ -1,5 +1,5 @@
 //! The rows of several parts, in the order of their keys.
-ghost use Rattle.std.specs.Prelude.{◌≡◌, map, IfOk};
+ghost use Rattle.std.specs.Prelude.{◌≡◌, [], map, IfOk};
 ghost use Rattle.sql_text.specs.declared.link.LinkAnswer.TheVariants as answer;
 ghost use Rattle.txn_phases.specs.Deeds.{key_order, merged_within as within_meant};
 
@@ -8,6 +8,7 @@ use list_types::Listed;
 use sql_text::LinkAnswer;
 use sql_values::Rows;
 use std::alloc::{AllocError, Global};
+use std::mem;
 
 /// The parts as answers.
 fn answers_of(alloc: Global, parts: Listed<Rows>) -> Result<Answers, AllocError>
@@ -34,11 +35,7 @@ fn by_key(alloc: Global, place: u32) -> Result<Order, AllocError>
 
 /// The rows of all parts, in the order of their keys; None where they are more than an answer may have.
 #[tactic(auto, using(crate::proofs::Merged::found_within, crate::proofs::Merged::found_too_large))]
-pub(crate) fn merged_within(
-    alloc: Global,
-    parts: Listed<Rows>,
-    place: u32,
-) -> Result<Option<Rows>, AllocError>
+fn merged_within(alloc: Global, parts: Listed<Rows>, place: u32) -> Result<Option<Rows>, AllocError>
     ensures { IfOk result (λ rows. rows ≡ within_meant place parts) }
 {
     let answers = answers_of(alloc, parts)?;
@@ -48,4 +45,17 @@ pub(crate) fn merged_within(
         Err(RowsFault::Limit) => Ok(None),
         Err(RowsFault::NoMemory) => Err(AllocError),
     }
+}
+
+/// The same of parts that are taken away.
+pub(crate) fn take_merged(
+    alloc: Global,
+    parts: &mut Listed<Rows>,
+    place: u32,
+) -> Result<Option<Rows>, AllocError>
+    ensures merged { IfOk result (λ rows. rows ≡ within_meant place parts.old) }
+    ensures taken { parts.new ≡ [] }
+{
+    let taken = mem::replace(parts, Listed::new(alloc));
+    merged_within(alloc, taken, place)
 }

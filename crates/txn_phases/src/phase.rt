@@ -28,14 +28,14 @@ pub struct Target {
 /// Links that a statement scans, in the order of partitions, then of links.
 pub type Targets = Listed<Target>;
 
-/// How far a statement has come: whose answers it reads. From PUT on its outcome is known.
+/// How far a statement has come: whose answers it reads. Once the rows were found its outcome is known.
 #[derive(Debug, Drop)]
 pub enum Phase {
     /// To START.
     Starting,
     /// To the scans.
     Scanning,
-    /// To the puts.
+    /// To what is put or deleted.
     Putting(Outcome),
     /// To END.
     Ending(Outcome),

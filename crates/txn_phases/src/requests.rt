@@ -1,12 +1,14 @@
 //! The requests of the phases.
 ghost use Rattle.std.specs.Prelude.{◌≡◌, ◌++◌, IfOk};
-ghost use Rattle.txn_phases.specs.Phases.{told as told_meant, begun_of, to_branches as to_these, scan_of as scan_meant, scans_of, puts_of, put_of, servers_of as servers_asked};
+ghost use Rattle.txn_phases.specs.Phases.{told as told_meant, begun_of, to_branches as to_these, scan_of as scan_meant, scans_of, puts_of, put_of, dels_of, del_of, servers_of as servers_asked};
+ghost use Rattle.txn_phases.specs.Deeds.{keys_in as keys_meant};
 
 use crate::deed::news_in;
+use crate::partitions::PlacedKey;
 use crate::{Branch, PlacedRow, TableScan, Target};
 use list_types::Listed;
 use sql_text::{LinkRequest, Scan, ScanItems};
-use sql_values::{Cond, Rows, ServerNo, ServerNos};
+use sql_values::{Cond, Keys, Name, PartNo, Rows, ServerNo, ServerNos};
 use std::alloc::{AllocError, Global};
 
 /// A request that goes to a server.
@@ -136,6 +138,52 @@ pub(crate) fn puts(
     let mut asks = Listed::new(alloc);
     for target in targets {
         push_put(&mut asks, target, news_in(alloc, news, target.part)?)?;
+    }
+    Ok(asks)
+}
+
+/// The keys of a partition, in their order.
+fn keys_in(alloc: Global, keys: &[PlacedKey], part: PartNo) -> Result<Keys, AllocError>
+    ensures { IfOk result (λ found. found ≡ keys_meant keys.now part) }
+{
+    let mut found = Listed::new(alloc);
+    for key in keys {
+        if key.part == part {
+            found.push(key.key)?;
+        }
+    }
+    Ok(found)
+}
+
+/// Deletes rows at a link, where there are keys.
+fn push_del(asks: &mut Asks, target: &Target, key: &Name, keys: Keys) -> Result<(), AllocError>
+    ensures { IfOk result (λ _. asks.new ≡ asks.old ++ del_of key.now target.now keys) }
+{
+    if !keys.is_empty() {
+        asks.push(Ask {
+            server: target.server,
+            request: LinkRequest::Del {
+                table: target.remote.clone()?,
+                key: key.clone()?,
+                keys,
+            },
+        })?;
+    }
+    Ok(())
+}
+
+/// Its partition's keys to each link, to have no rows with them.
+pub(crate) fn dels(
+    alloc: Global,
+    targets: &[Target],
+    key: &Name,
+    keys: &[PlacedKey],
+) -> Result<Asks, AllocError>
+    ensures { IfOk result (λ asks. asks ≡ dels_of key.now targets.now keys.now) }
+{
+    let mut asks = Listed::new(alloc);
+    for target in targets {
+        push_del(&mut asks, target, key, keys_in(alloc, keys, target.part)?)?;
     }
     Ok(asks)
 }

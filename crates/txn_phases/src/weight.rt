@@ -2,9 +2,10 @@
 ghost use Rattle.std.specs.Prelude.{◌≡◌, map, IfOk};
 ghost use Rattle.std.specs.List.{list_any};
 ghost use Rattle.txn_phases.specs.declared.weight.Weight.{Weight};
-ghost use Rattle.txn_phases.specs.Deeds.{writes_too_much as too_much};
-ghost use Rattle.txn_phases.specs.Weights.{weight_of as weight_meant, is_heavy};
+ghost use Rattle.txn_phases.specs.Deeds.{writes_too_much as too_much, deletes_too_much as too_many};
+ghost use Rattle.txn_phases.specs.Weights.{weight_of as weight_meant, key_weight_of as key_weight_meant, is_heavy};
 
+use crate::partitions::PlacedKey;
 use crate::{PlacedRow, Target};
 use sql_values::{ServerNo, size};
 use std::alloc::{AllocError, Global};
@@ -56,6 +57,38 @@ fn weights_of(
     Ok(weights)
 }
 
+/// A key counts one row, and no bytes.
+fn key_weight_of(keys: &[PlacedKey], target: &Target) -> Weight
+    ensures { result ≡ key_weight_meant keys.now target.now }
+{
+    let mut rows: u64 = 0;
+    for key in keys {
+        if key.part != target.part {
+            continue;
+        }
+        rows = rows.saturating_add(1);
+    }
+    Weight {
+        server: target.server,
+        rows,
+        bytes: 0,
+    }
+}
+
+fn key_weights_of(
+    alloc: Global,
+    targets: &[Target],
+    keys: &[PlacedKey],
+) -> Result<Vec<Weight>, AllocError>
+    ensures { IfOk result (λ weights. weights.items ≡ map (key_weight_meant keys.now) targets.now) }
+{
+    let mut weights = Vec::new(alloc);
+    for target in targets {
+        weights.push(key_weight_of(keys, target))?;
+    }
+    Ok(weights)
+}
+
 /// Whether so much may not be written at the server.
 fn is_long_write(weights: &[Weight], server: ServerNo) -> bool
     ensures { result ≡ is_heavy weights.now server }
@@ -89,5 +122,17 @@ pub(crate) fn writes_too_much(
     ensures { IfOk result (λ much. much ≡ too_much targets.now news.now) }
 {
     let weights = weights_of(alloc, targets, news)?;
+    Ok(is_any_heavy(&weights))
+}
+
+/// Whether more than 10,000 rows would go at a server.
+pub(crate) fn deletes_too_much(
+    alloc: Global,
+    targets: &[Target],
+    keys: &[PlacedKey],
+) -> Result<bool, AllocError>
+    ensures { IfOk result (λ much. much ≡ too_many targets.now keys.now) }
+{
+    let weights = key_weights_of(alloc, targets, keys)?;
     Ok(is_any_heavy(&weights))
 }

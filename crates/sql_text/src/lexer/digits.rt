@@ -2,9 +2,9 @@
 ghost use Rattle.std.specs.Prelude.{◌≡◌, ◌+◌, ◌*◌, ◌-◌, ◌≤◌, min};
 ghost use Rattle.std.specs.Char.{is_ascii_digit};
 ghost use Rattle.sql_text.specs.Lexing.{cap};
-ghost use Rattle.sql_text.specs.Tokens.{run, value_after, digits_token, signed_token, digits_at, signed_at};
+ghost use Rattle.sql_text.specs.Tokens.{run, value_after, digits_token, signed_token, sign_token, digits_at, signed_at};
 
-use crate::token::Token;
+use crate::token::{Fixed, Token};
 
 /// The digits at the front, and the bytes behind them.
 fn digit_run(bytes: &[u8]) -> (&[u8], &[u8])
@@ -85,16 +85,27 @@ pub fn digits(bytes: &[u8]) -> (Token, &[u8])
     (digits_of(digits), rest)
 }
 
-/// Digits behind a sign.
-pub fn signed(minus: bool, bytes: &[u8]) -> (Token, &[u8])
-    ensures { (result.0, result.1.now) ≡ signed_at minus bytes.now }
+/// A sign alone.
+fn sign(minus: bool) -> Token
+    ensures { result ≡ sign_token minus }
+{
+    if minus {
+        Token::Fixed(Fixed::Minus)
+    } else {
+        Token::Fixed(Fixed::Plus)
+    }
+}
+
+/// A sign, before these bytes: with digits directly behind it, where no operand ends before it, or alone.
+pub fn signed(operand: bool, minus: bool, bytes: &[u8]) -> (Token, &[u8])
+    ensures { (result.0, result.1.now) ≡ signed_at operand minus bytes.now }
 {
     match bytes {
-        [first, ..] if first.is_ascii_digit() => {
+        [first, ..] if first.is_ascii_digit() && !operand => {
             let (digits, rest) = digit_run(bytes);
             (signed_of(minus, digits), rest)
         }
-        [_, rest @ ..] => (Token::Bad, rest),
-        [] => (Token::Bad, bytes),
+        [_, ..] => (sign(minus), bytes),
+        [] => (sign(minus), bytes),
     }
 }

@@ -1,7 +1,7 @@
 //! Words: keywords and names.
 ghost use Rattle.std.specs.Prelude.{◌≡◌, IfOk, Some, None, if◌then◌else◌};
 ghost use Rattle.sql_values.specs.Names.{is_name, begins_name as may_begin, continues_name as may_continue};
-ghost use Rattle.sql_text.specs.Tokens.{is_word as word_is, keyword_of, run, word_at, in_dialect as token_in_dialect, branch_word, scan_word, other_word, link_word};
+ghost use Rattle.sql_text.specs.Tokens.{is_word as word_is, basic_word, change_word, keyword_of, run, word_at, in_dialect as token_in_dialect, branch_word, scan_word, other_word, link_word};
 
 use crate::token::{Dialect, Fixed, Token};
 use list_types::Text;
@@ -27,9 +27,9 @@ fn is_word(word: &[u8], bytes: &[u8]) -> bool
     expected.is_empty()
 }
 
-/// The keyword that the bytes are.
-fn keyword(bytes: &[u8]) -> Option<Fixed>
-    ensures { result ≡ keyword_of bytes.now }
+/// The keyword that the bytes are in INSERT, SELECT and conditions.
+fn basic_keyword(bytes: &[u8]) -> Option<Fixed>
+    ensures { result ≡ basic_word bytes.now }
 {
     if is_word(b"AND", bytes) {
         return Some(Fixed::And);
@@ -73,6 +73,44 @@ fn keyword(bytes: &[u8]) -> Option<Fixed>
     None
 }
 
+/// The keyword that the bytes are in UPDATE, DELETE and the words of locks.
+fn change_keyword(bytes: &[u8]) -> Option<Fixed>
+    ensures { result ≡ change_word bytes.now }
+{
+    if is_word(b"UPDATE", bytes) {
+        return Some(Fixed::Update);
+    }
+    if is_word(b"SET", bytes) {
+        return Some(Fixed::Set);
+    }
+    if is_word(b"DELETE", bytes) {
+        return Some(Fixed::Delete);
+    }
+    if is_word(b"FOR", bytes) {
+        return Some(Fixed::For);
+    }
+    if is_word(b"LOCK", bytes) {
+        return Some(Fixed::Lock);
+    }
+    if is_word(b"SHARE", bytes) {
+        return Some(Fixed::Share);
+    }
+    if is_word(b"MODE", bytes) {
+        return Some(Fixed::Mode);
+    }
+    None
+}
+
+/// The keyword that the bytes are.
+fn keyword(bytes: &[u8]) -> Option<Fixed>
+    ensures { result ≡ keyword_of bytes.now }
+{
+    match basic_keyword(bytes) {
+        Some(fixed) => Some(fixed),
+        None => change_keyword(bytes),
+    }
+}
+
 /// The keyword that the bytes are in what is asked of a branch.
 fn branch_keyword(bytes: &[u8]) -> Option<Fixed>
     ensures { result ≡ branch_word bytes.now }
@@ -114,21 +152,6 @@ fn scan_keyword(bytes: &[u8]) -> Option<Fixed>
     if is_word(b"LIMIT", bytes) {
         return Some(Fixed::Limit);
     }
-    if is_word(b"LOCK", bytes) {
-        return Some(Fixed::Lock);
-    }
-    if is_word(b"SHARE", bytes) {
-        return Some(Fixed::Share);
-    }
-    if is_word(b"MODE", bytes) {
-        return Some(Fixed::Mode);
-    }
-    if is_word(b"FOR", bytes) {
-        return Some(Fixed::For);
-    }
-    if is_word(b"UPDATE", bytes) {
-        return Some(Fixed::Update);
-    }
     None
 }
 
@@ -138,9 +161,6 @@ fn other_keyword(bytes: &[u8]) -> Option<Fixed>
 {
     if is_word(b"REPLACE", bytes) {
         return Some(Fixed::Replace);
-    }
-    if is_word(b"DELETE", bytes) {
-        return Some(Fixed::Delete);
     }
     if is_word(b"COUNT", bytes) {
         return Some(Fixed::Count);

@@ -4,16 +4,17 @@ ghost use Rattle.sql_text.specs.declared.link.AggregateCall.TheVariants as calls
 ghost use Rattle.sql_text.specs.declared.token.Fixed.TheVariants as fixed;
 ghost use Rattle.sql_text.specs.LinkGrammar.{count_of as value_of_count};
 ghost use Rattle.sql_text.specs.Reading.{Gives, one_at, column_at, parenthesized_at, further_at, with_front};
-ghost use Rattle.sql_text.specs.LinkReading.{star_at, count_at, aggregate_at, scan_items_at, order_at, limit_at, share_at, update_at, lock_at, scan_at};
+ghost use Rattle.sql_text.specs.LinkReading.{star_at, count_at, aggregate_at, scan_items_at, order_at, limit_at, scan_at};
 
 use crate::cursor::{begins, behind, expect, name, open, syntax_error};
 use crate::fault::ReadError;
 use crate::link::{AggregateCall, LinkRequest, Scan, ScanItems};
+use crate::reading::locks::lock;
 use crate::reading::names::column;
 use crate::reading::select::where_cond;
 use crate::token::{Fixed, Token};
 use list_types::Listed;
-use sql_values::{ColumnName, LockMode, Name};
+use sql_values::{ColumnName, Name};
 use std::alloc::Global;
 
 /// The most aggregates of a scan behind the first one.
@@ -147,39 +148,6 @@ fn limit(tokens: &[Token]) -> Result<(Option<u64>, &[Token]), ReadError>
     }
     let (count, rest) = count(behind(tokens))?;
     Ok((Some(count), rest))
-}
-
-/// IN SHARE MODE.
-#[tactic(auto, unfolding(crate::specs::LinkReading::share_at))]
-fn share(tokens: &[Token]) -> Result<(LockMode, &[Token]), ReadError>
-    ensures { Gives (λ x. (x.0, x.1.now)) result (share_at tokens.now) }
-{
-    let rest = expect(Fixed::In, tokens)?;
-    let rest = expect(Fixed::Share, rest)?;
-    let rest = expect(Fixed::Mode, rest)?;
-    Ok((LockMode::Shared, rest))
-}
-
-/// FOR UPDATE.
-#[tactic(auto, unfolding(crate::specs::LinkReading::update_at))]
-fn update(tokens: &[Token]) -> Result<(LockMode, &[Token]), ReadError>
-    ensures { Gives (λ x. (x.0, x.1.now)) result (update_at tokens.now) }
-{
-    let rest = expect(Fixed::For, tokens)?;
-    let rest = expect(Fixed::Update, rest)?;
-    Ok((LockMode::Exclusive, rest))
-}
-
-/// How the rows are locked.
-#[tactic(auto, unfolding(crate::specs::LinkReading::lock_at))]
-fn lock(tokens: &[Token]) -> Result<(LockMode, &[Token]), ReadError>
-    ensures { Gives (λ x. (x.0, x.1.now)) result (lock_at tokens.now) }
-{
-    if begins(Fixed::Lock, tokens) {
-        share(behind(tokens))
-    } else {
-        update(tokens)
-    }
 }
 
 /// A scan.

@@ -6,6 +6,7 @@ ghost use Rattle.sql_text.specs.Reading.{Gives, item_at, select_items_at, tab_at
 use crate::cursor::{begins, behind, expect};
 use crate::fault::ReadError;
 use crate::reading::conditions::cond;
+use crate::reading::locks::locked;
 use crate::reading::names::{alias, column, table};
 use crate::statement::{Item, Select, SelectItems, Statement, Tab};
 use crate::token::{Fixed, Token};
@@ -105,6 +106,12 @@ pub fn select(
     let rest = expect(Fixed::From, rest)?;
     let (tab, rest) = tab(rest)?;
     let (cond, rest) = where_cond(alloc, depth, rest)?;
-    let select = Select { items, tab, cond };
+    let (lock, rest) = locked(rest)?;
+    let select = Select {
+        items,
+        tab,
+        cond,
+        lock,
+    };
     Ok((Statement::Select(select), rest))
 }

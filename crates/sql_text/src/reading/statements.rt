@@ -4,8 +4,10 @@ ghost use Rattle.sql_text.specs.Reading.{Gives, body_at, statement_at, ended};
 
 use crate::cursor::{begins, optional, syntax_error};
 use crate::fault::ReadError;
+use crate::reading::delete::delete;
 use crate::reading::insert::insert;
 use crate::reading::select::select;
+use crate::reading::update::update;
 use crate::statement::Statement;
 use crate::token::{Fixed, Token};
 use std::alloc::Global;
@@ -16,10 +18,15 @@ fn body(alloc: Global, depth: u32, tokens: &[Token]) -> Result<(Statement, &[Tok
     ensures { Gives (λ x. (x.0, x.1.now)) result (body_at depth tokens.now) }
 {
     if begins(Fixed::Insert, tokens) {
-        insert(alloc, depth, tokens)
-    } else {
-        select(alloc, depth, tokens)
+        return insert(alloc, depth, tokens);
     }
+    if begins(Fixed::Select, tokens) {
+        return select(alloc, depth, tokens);
+    }
+    if begins(Fixed::Update, tokens) {
+        return update(alloc, depth, tokens);
+    }
+    delete(alloc, depth, tokens)
 }
 
 /// The statement that all of the tokens are.

@@ -1,5 +1,5 @@
 use Rattle.std.proofs.Common.{◌≡◌, map}
-use Rattle.front_core.specs.Jobs.{placed}
+use Rattle.txn_phases.specs.Deeds.{placed}
 use Rattle.front_core.proofs.planning.placed_rows.Given as goal
 
 abbrev pub invariant-loop-row : goal.invariant-loop-row

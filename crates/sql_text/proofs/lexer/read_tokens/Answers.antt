@@ -7,38 +7,38 @@ use Rattle.sql_text.proofs.lexer.read_tokens.Goals as goal
 pub returns-in-None-clause-tokens : goal.returns-in-None-clause-tokens
 unfolding placed_tokens
 returns-in-None-clause-tokens c =
-    let last : (step_at c.loop.touching c.loop.rest.now).1 ≡ None = no_step _ _ _ c.in_ok-step.ensures.rest c.in-None.is in
+    let last : (step_at c.loop.before c.loop.rest.now).1 ≡ None = no_step _ _ _ c.in_ok-step.ensures.rest c.in-None.is in
     let n : length c.args.text.now - c.loop.counter ≡ suc (length c.args.text.now - (c.loop.counter + 1)) = omega arith in
     c.in_ok-step.ensures.tokens
-    ∙ last_step (λ (p : Placed). in_dialect c.args.dialect p.0) (length c.args.text.now - (c.loop.counter + 1)) c.loop.touching c.loop.rest.now c.loop.out.tokens.items last
-    ∙ ap (λ (k : ℕ). c.loop.out.tokens.items ++ map (λ (p : Placed). in_dialect c.args.dialect p.0) (tokens_within k c.loop.touching c.loop.rest.now)) (sym n)
+    ∙ last_step (λ (p : Placed). in_dialect c.args.dialect p.0) (length c.args.text.now - (c.loop.counter + 1)) c.loop.before c.loop.rest.now c.loop.out.tokens.items last
+    ∙ ap (λ (k : ℕ). c.loop.out.tokens.items ++ map (λ (p : Placed). in_dialect c.args.dialect p.0) (tokens_within k c.loop.before c.loop.rest.now)) (sym n)
     ∙ c.loop.invariant.tokens
     ∙ in_dialect_is c.args.dialect c.args.text.now
 
 pub returns-in-None-clause-lefts : goal.returns-in-None-clause-lefts
 unfolding lefts_of placed_tokens
 returns-in-None-clause-lefts c =
-    let last : (step_at c.loop.touching c.loop.rest.now).1 ≡ None = no_step _ _ _ c.in_ok-step.ensures.rest c.in-None.is in
+    let last : (step_at c.loop.before c.loop.rest.now).1 ≡ None = no_step _ _ _ c.in_ok-step.ensures.rest c.in-None.is in
     let n : length c.args.text.now - c.loop.counter ≡ suc (length c.args.text.now - (c.loop.counter + 1)) = omega arith in
     c.in_ok-step.ensures.lefts
-    ∙ last_step (λ (p : Placed). p.1) (length c.args.text.now - (c.loop.counter + 1)) c.loop.touching c.loop.rest.now c.loop.out.lefts.items last
-    ∙ ap (λ (k : ℕ). c.loop.out.lefts.items ++ map (λ (p : Placed). p.1) (tokens_within k c.loop.touching c.loop.rest.now)) (sym n)
+    ∙ last_step (λ (p : Placed). p.1) (length c.args.text.now - (c.loop.counter + 1)) c.loop.before c.loop.rest.now c.loop.out.lefts.items last
+    ∙ ap (λ (k : ℕ). c.loop.out.lefts.items ++ map (λ (p : Placed). p.1) (tokens_within k c.loop.before c.loop.rest.now)) (sym n)
     ∙ c.loop.invariant.lefts
 
 pub loop-preserved : goal.loop-preserved
 loop-preserved c =
     let text = c.args.text.now in
     let n : length c.args.text.now - c.loop.counter ≡ suc (length c.args.text.now - (c.loop.counter + 1)) = omega arith in
-    let next : (step_at c.loop.touching c.loop.rest.now).1 ≡ Some (c.in-Some.touches, c.in-Some.behind.now) = some_step _ _ _ _ c.in_ok-step.ensures.rest c.in-Some.is in
+    let next : (step_at c.loop.before c.loop.rest.now).1 ≡ Some (c.in-Some.next, c.in-Some.behind.now) = some_step _ _ _ _ c.in_ok-step.ensures.rest c.in-Some.is in
     record {
       end_is = c.loop.invariant.end_is;
-      tokens = ap (λ l. l ++ map (λ (p : Placed). in_dialect c.args.dialect p.0) (tokens_within (length c.args.text.now - (c.loop.counter + 1)) c.in-Some.touches c.in-Some.behind.now)) c.in_ok-step.ensures.tokens
-          ∙ more_steps (λ (p : Placed). in_dialect c.args.dialect p.0) (length c.args.text.now - (c.loop.counter + 1)) c.loop.touching c.in-Some.touches c.loop.rest.now c.in-Some.behind.now c.loop.out.tokens.items next
-          ∙ ap (λ (k : ℕ). c.loop.out.tokens.items ++ map (λ (p : Placed). in_dialect c.args.dialect p.0) (tokens_within k c.loop.touching c.loop.rest.now)) (sym n)
+      tokens = ap (λ l. l ++ map (λ (p : Placed). in_dialect c.args.dialect p.0) (tokens_within (length c.args.text.now - (c.loop.counter + 1)) c.in-Some.next c.in-Some.behind.now)) c.in_ok-step.ensures.tokens
+          ∙ more_steps (λ (p : Placed). in_dialect c.args.dialect p.0) (length c.args.text.now - (c.loop.counter + 1)) c.loop.before c.in-Some.next c.loop.rest.now c.in-Some.behind.now c.loop.out.tokens.items next
+          ∙ ap (λ (k : ℕ). c.loop.out.tokens.items ++ map (λ (p : Placed). in_dialect c.args.dialect p.0) (tokens_within k c.loop.before c.loop.rest.now)) (sym n)
           ∙ c.loop.invariant.tokens;
-      lefts = ap (λ l. l ++ map (λ (p : Placed). p.1) (tokens_within (length c.args.text.now - (c.loop.counter + 1)) c.in-Some.touches c.in-Some.behind.now)) c.in_ok-step.ensures.lefts
-          ∙ more_steps (λ (p : Placed). p.1) (length c.args.text.now - (c.loop.counter + 1)) c.loop.touching c.in-Some.touches c.loop.rest.now c.in-Some.behind.now c.loop.out.lefts.items next
-          ∙ ap (λ (k : ℕ). c.loop.out.lefts.items ++ map (λ (p : Placed). p.1) (tokens_within k c.loop.touching c.loop.rest.now)) (sym n)
+      lefts = ap (λ l. l ++ map (λ (p : Placed). p.1) (tokens_within (length c.args.text.now - (c.loop.counter + 1)) c.in-Some.next c.in-Some.behind.now)) c.in_ok-step.ensures.lefts
+          ∙ more_steps (λ (p : Placed). p.1) (length c.args.text.now - (c.loop.counter + 1)) c.loop.before c.in-Some.next c.loop.rest.now c.in-Some.behind.now c.loop.out.lefts.items next
+          ∙ ap (λ (k : ℕ). c.loop.out.lefts.items ++ map (λ (p : Placed). p.1) (tokens_within k c.loop.before c.loop.rest.now)) (sym n)
           ∙ c.loop.invariant.lefts;
     }
 
@@ -47,6 +47,6 @@ unfolding placed_tokens
 returns-clause-tokens c =
     let done : length c.args.text.now - c.loop.counter ≡ 0 = omega arith in
     sym (append-nil c.loop.out.tokens.items)
-    ∙ ap (λ (k : ℕ). c.loop.out.tokens.items ++ map (λ (p : Placed). in_dialect c.args.dialect p.0) (tokens_within k c.loop.touching c.loop.rest.now)) (sym done)
+    ∙ ap (λ (k : ℕ). c.loop.out.tokens.items ++ map (λ (p : Placed). in_dialect c.args.dialect p.0) (tokens_within k c.loop.before c.loop.rest.now)) (sym done)
     ∙ c.loop.invariant.tokens
     ∙ in_dialect_is c.args.dialect c.args.text.now
