@@ -5,7 +5,7 @@ use Rattle.sql_values.specs.declared.tree.Expr.{Expr}
 use Rattle.sql_values.specs.declared.tree.Expr.TheVariants as exprs
 use Rattle.sql_values.specs.declared.tree.Addend.{Addend}
 use Rattle.sql_text.specs.declared.token.Fixed.{Fixed}
-use Rattle.sql_text.specs.declared.token.Fixed.TheVariants.{And, As, Between, Delete, For, From, In, Insert, Into, Lock, Mode, Not, Null, Or, Select, Set, Share, Update, Values, Where, By, Commit, Count, End, Limit, Max, Min, Order, Prepare, Recover, Replace, Rollback, Start, Sum, Xa, Open, Close, Comma, Dot, Star, Plus, Minus, Semicolon, Equal, NotEqual, Less, AtMost, Greater, AtLeast}
+use Rattle.sql_text.specs.declared.token.Fixed.TheVariants.{And, As, Asc, Between, By, Count, Delete, Desc, For, From, In, Insert, Into, Limit, Lock, Max, Min, Mode, Not, Null, Offset, Or, Order, Select, Set, Share, Sum, Update, Values, Where, Commit, End, Prepare, Recover, Replace, Rollback, Start, Xa, Open, Close, Comma, Dot, Star, Plus, Minus, Semicolon, Equal, NotEqual, Less, AtMost, Greater, AtLeast}
 use Rattle.sql_text.specs.declared.token.Token.{Token}
 use Rattle.sql_text.specs.declared.token.Token.TheVariants as tokens
 use Rattle.sql_text.specs.declared.fault.Stop.{Stop}
@@ -25,6 +25,9 @@ sign_kinds = 47 ∷ 48 ∷ []
 sign_tells_fixed : (f : Fixed) → is_some (sign_of (tokens.Fixed f)) ≡ member (number_of f) sign_kinds
 sign_tells_fixed And = refl
 sign_tells_fixed As = refl
+sign_tells_fixed Asc = refl
+sign_tells_fixed Desc = refl
+sign_tells_fixed Offset = refl
 sign_tells_fixed Between = refl
 sign_tells_fixed Delete = refl
 sign_tells_fixed For = refl

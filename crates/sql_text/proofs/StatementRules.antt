@@ -9,7 +9,7 @@ use Rattle.sql_text.specs.Reading.{◌>>=◌, begins, optional_at, name_at, seri
 use Rattle.sql_text.proofs.Fields.{IsField, is_field}
 use Rattle.sql_text.proofs.Choices.{begins_tells, either_field, optional_field}
 use Rattle.sql_text.proofs.Nested.{series_field}
-use Rattle.sql_text.proofs.ReadRules.{both, behind_fixed, known_as, name_field, table_field, where_field, insert_field, select_field, delete_field}
+use Rattle.sql_text.proofs.ReadRules.{both, behind_fixed, known_as, name_field, table_field, where_field, insert_field, select_kinds, select_field, delete_field}
 use Rattle.sql_text.proofs.ExprRules.{expr_field}
 
 assignment_field : (depth : ℕ) → IsField assignment depth (assignment_at depth) false (100 ∷ []) (47 ∷ 48 ∷ 17 ∷ 16 ∷ [])
@@ -33,7 +33,7 @@ abbrev pub firsts : List ℕ
 firsts = 5 ∷ 10 ∷ 44 ∷ 28 ∷ []
 
 abbrev pub furthers : List ℕ
-furthers = 32 ∷ 30 ∷ 15 ∷ 12 ∷ 9 ∷ 0 ∷ 1 ∷ 100 ∷ 47 ∷ 48 ∷ 17 ∷ 16 ∷ []
+furthers = 32 ∷ 30 ∷ 31 ∷ 51 ∷ 36 ∷ 15 ∷ 49 ∷ 50 ∷ 12 ∷ 9 ∷ 0 ∷ 1 ∷ 100 ∷ 47 ∷ 48 ∷ 17 ∷ 16 ∷ []
 
 update_or_delete : (depth : ℕ) → IsField (λ n. update n ∣ delete n) depth (λ ts. cond (begins Update ts) (update_at depth ts) (delete_at depth ts)) false (44 ∷ 28 ∷ []) furthers
 update_or_delete depth = known_as (44 ∷ 28 ∷ []) furthers refl refl
@@ -47,7 +47,7 @@ body_field depth = known_as firsts furthers refl refl
     (5 ∷ []) (15 ∷ []) (10 ∷ 44 ∷ 28 ∷ []) furthers
     (insert_field depth)
     (known_as (10 ∷ 44 ∷ 28 ∷ []) furthers refl refl
-    (either_field select (select_at depth) (λ n. update n ∣ delete n) (λ ts. cond (begins Update ts) (update_at depth ts) (delete_at depth ts)) (begins Select) depth false (10 ∷ []) (32 ∷ 30 ∷ 12 ∷ 9 ∷ 0 ∷ 1 ∷ 100 ∷ 16 ∷ []) (44 ∷ 28 ∷ []) furthers
+    (either_field select (select_at depth) (λ n. update n ∣ delete n) (λ ts. cond (begins Update ts) (update_at depth ts) (delete_at depth ts)) (begins Select) depth false (10 ∷ []) select_kinds (44 ∷ 28 ∷ []) furthers
     (select_field depth) (update_or_delete depth) (begins_tells Select) refl))
     (begins_tells Insert) refl)
 
