@@ -13,7 +13,7 @@ use Rattle.sql_text.specs.declared.link.LinkAnswer.TheVariants.{Done, Rows}
 use Rattle.sql_text.specs.declared.link.LinkRequest.TheVariants as request
 use Rattle.sql_text.specs.declared.link.Scan.{Scan}
 use Rattle.plain_tables.specs.Inserts.{put, put_all}
-use Rattle.plain_tables.specs.Rows.{Row, by_key, holds_on, kept, FitsColumns, fits_columns}
+use Rattle.plain_tables.specs.Rows.{Row, by_key, holds_on, kept, fits_columns, FitsColumns}
 use Rattle.plain_tables.proofs.Inserted.{put_rises, in_put}
 use Rattle.plain_tables.proofs.Members.{all_of, all_by, kept_passes}
 use Rattle.branch_store.specs.declared.branch.Branch.{Branch}

@@ -6,17 +6,16 @@ ghost use Rattle.std.specs.Result.{is_ok};
 ghost use Rattle.std.specs.Str.{chars};
 ghost use Rattle.std.specs.Cmp.Lexicographic.{pointwise};
 ghost use Rattle.sql_values.specs.Checks.{checked_cond};
-ghost use Rattle.sql_values.specs.Columns.{column_kind, may_qualify};
 ghost use Rattle.sql_values.specs.Storing.{is_within as fits_within, stored};
 ghost use Rattle.stmt_plan.specs.Inserts.{key_name};
 ghost use Rattle.plain_tables.specs.Rows.{can_hold, fits_columns as row_of};
-ghost use Rattle.branch_store.specs.Faults.{key_fault as name_fault, cond_fault as fault_of_cond, items_fault as fault_of_items, call_fault as fault_of_call, calls_fault as fault_of_calls, fault_of_check, scan_fault as fault_of_scan};
+ghost use Rattle.branch_store.specs.Faults.{key_fault as name_fault, cond_fault as fault_of_cond, items_fault as fault_of_items, fault_of_check, scan_fault as fault_of_scan};
 
 use crate::BranchFault;
 use crate::remote_table::RemoteTable;
-use sql_text::{AggregateCall, Scan, ScanItems};
+use sql_text::{Scan, ScanItems};
 use sql_values::{
-    CheckFault, ColumnDef, ColumnName, Cond, Kind, Literal, Name, Row, Rows, TableDef, Value, check_cond,
+    CheckFault, ColumnDef, Cond, Kind, Literal, Name, Row, Rows, TableDef, Value, check_cond,
 };
 use std::alloc::{AllocError, Global};
 
@@ -164,81 +163,16 @@ fn misfit(
     }
 }
 
-/// Whether a name's qualifier, where it has one, is the table's name.
-fn is_qualified_by(table: &Option<Name>, known: &Name) -> bool
-    ensures { result ≡ may_qualify table.now known.now }
-{
-    match table {
-        Some(table) => table == known,
-        None => true,
-    }
-}
-
-/// The kind of the column that the name means.
-fn kind_of(def: &TableDef, name: &ColumnName) -> Option<Kind>
-    ensures { result ≡ column_kind (def.now ∷ []) name.now }
-{
-    if !is_qualified_by(&name.table, &def.name) {
-        return None;
-    }
-    for column in def.columns.as_slice() {
-        if column.name == name.column {
-            return Some(column.kind);
-        }
-    }
-    None
-}
-
-/// Why an aggregate isn't answered: its column has to be there, and a sum is one of numbers.
-fn call_fault(
-    alloc: Global,
-    table: &RemoteTable,
-    call: &AggregateCall,
-) -> Result<Option<BranchFault>, AllocError>
-    ensures { IfOk result (λ fault. fault ≡ fault_of_call table.now.def call.now) }
-{
-    let (name, sums) = match call {
-        AggregateCall::Count => return Ok(None),
-        AggregateCall::Sum(name) => (name, true),
-        AggregateCall::Min(name) | AggregateCall::Max(name) => (name, false),
-    };
-    match kind_of(table.def(), name) {
-        Some(Kind::VarChar(_)) if sums => Ok(Some(BranchFault::TypeMismatch)),
-        Some(_) => Ok(None),
-        None => Ok(Some(BranchFault::NoColumn(name.column.copy(alloc)?))),
-    }
-}
-
-/// The first of these that isn't answered.
-fn calls_fault(
-    alloc: Global,
-    table: &RemoteTable,
-    calls: &[AggregateCall],
-) -> Result<Option<BranchFault>, AllocError>
-    ensures { IfOk result (λ fault. fault ≡ fault_of_calls table.now.def calls.now) }
-{
-    for call in calls {
-        if let Some(fault) = call_fault(alloc, table, call)? {
-            return Ok(Some(fault));
-        }
-    }
-    Ok(None)
-}
-
-fn items_fault(
-    alloc: Global,
-    table: &RemoteTable,
-    items: &ScanItems,
-) -> Result<Option<BranchFault>, AllocError>
-    ensures { IfOk result (λ fault. fault ≡ fault_of_items table.now.def items.now) }
+fn items_fault(items: &ScanItems) -> Option<BranchFault>
+    ensures { result ≡ fault_of_items items.now }
 {
     match items {
-        ScanItems::All => Ok(None),
-        ScanItems::Aggregates(calls) => calls_fault(alloc, table, calls.as_slice()),
+        ScanItems::All => None,
+        ScanItems::Aggregates(_) => Some(BranchFault::NotSupported),
     }
 }
 
-/// Why a scan isn't answered: what it asks for comes first, then the name of its order.
+/// Why a scan isn't answered: aggregates come first, then the name of its order.
 pub(crate) fn scan_fault(
     alloc: Global,
     table: &RemoteTable,
@@ -246,7 +180,7 @@ pub(crate) fn scan_fault(
 ) -> Result<Option<BranchFault>, AllocError>
     ensures { IfOk result (λ fault. fault ≡ fault_of_scan table.now.def scan.now) }
 {
-    if let Some(fault) = items_fault(alloc, table, &scan.items)? {
+    if let Some(fault) = items_fault(&scan.items) {
         return Ok(Some(fault));
     }
     match order_fault(alloc, table.def(), &scan.order)? {

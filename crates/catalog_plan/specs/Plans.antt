@@ -1,10 +1,11 @@
 -- The plan of a statement over the tables of a catalog.
-use Rattle.std.specs.Prelude.{◌≡◌, ◌⊎◌, ℕ, List, Some, None, map, slice_get}
+use Rattle.std.specs.Prelude.{◌≡◌, ◌⊎◌, ℕ, List, Option, Some, None, map, slice_get, option_and_then}
 use Rattle.catalog.specs.declared.tables.Table.{Table}
 use Rattle.catalog.specs.Index.{place_in}
 use Rattle.catalog.specs.Views.{table_name}
 use Rattle.sql_text.specs.declared.statement.Statement.{Statement}
 use Rattle.sql_text.specs.declared.statement.Statement.TheVariants as statement
+use Rattle.stmt_plan.specs.declared.fault.StmtFault.{StmtFault}
 use Rattle.stmt_plan.specs.declared.fault.StmtFault.TheVariants.{NoMemory}
 use Rattle.stmt_plan.specs.declared.planned.Plan.{Plan}
 use Rattle.stmt_plan.specs.Plans.{IsPlan}

@@ -1,7 +1,5 @@
-pub mod Aggregates
 pub mod Cells
 pub mod Comparing
 pub mod Gathering
 pub mod Laws
 pub mod Merging
-pub mod Sorting

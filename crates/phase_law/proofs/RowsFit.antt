@@ -35,7 +35,7 @@ use Rattle.stmt_plan.specs.Inserts.{is_named, targets, slots, has_each_once, mis
 use Rattle.stmt_plan.specs.Plans.{IsTable}
 use Rattle.stmt_plan.specs.Refusals.{refusal}
 use Rattle.plain_tables.specs.Inserts.{AreRows}
-use Rattle.plain_tables.specs.Rows.{Row, key_of, HasKey, FitsColumns, can_hold}
+use Rattle.plain_tables.specs.Rows.{Row, key_of, HasKey, can_hold, FitsColumns}
 use Rattle.plain_tables.proofs.Fitting.{stored_again}
 use Rattle.plain_tables.proofs.Members.{at_front, behind, either, nothing, in_lists, all_of, all_by}
 use Rattle.branch_store.specs.Opening.{is_definition}
@@ -51,11 +51,11 @@ cell_stored : (r : Result Value StoreFault) (c : ColumnDef) (row : ℕ) → opti
 cell_stored (Ok v) c row none = (v, refl, refl)
 cell_stored (Err fault) c row none = absurd (let no : Some (fault_of_store c.name row fault) ≡ None = none in cc)
 
--- a column can hold what it has of a literal that is stored
-slot_by : (literals : List Literal) (c : ColumnDef) (i : ℕ) (l : Literal) (v : Value) → slice_get literals i ≡ Some l → stored l c.kind ≡ Ok v → held (stored l c.kind) ≡ v → can_hold (c, slot_value literals (c, Some i)) ≡ true
+-- what a column has of a literal that is stored fits it
+slot_by : (literals : List Literal) (c : ColumnDef) (i : ℕ) (l : Literal) (v : Value) → slice_get literals i ≡ Some l → stored l c.kind ≡ Ok v → held (stored l c.kind) ≡ v → fits (c, slot_value literals (c, Some i)) ≡ true
 slot_by literals c i l v there is held_is =
     let shown : slot_value literals (c, Some i) ≡ held (stored l c.kind) = ap (λ (o : Option Literal). held (stored (unwrap_or o literal.Null) c.kind)) there in
-    ap (λ x. can_hold (c, x)) (shown ∙ held_is) ∙ stored_again l c.kind v is
+    ap (λ x. fits (c, x)) (shown ∙ held_is) ∙ stored_again l c.kind v is
 
 -- CELLS
 
@@ -99,7 +99,7 @@ one_column def c d is there here same =
 module _ (def : TableDef) (is : IsTable def) (among : List ColumnDef) (within : (c : ColumnDef) → Contains among c → Contains def.columns c) (row : ℕ) (literals : List Literal)
     (long : length literals ≡ length among) (none : row_fault row (zip among literals) ≡ None) where
   -- the value of a column that has a place
-  slot_fits : (c : ColumnDef) (place : Option ℕ) → Contains def.columns c → position (is_named c.name) among ≡ place → is_some place ≡ true → can_hold (c, slot_value literals (c, place)) ≡ true
+  slot_fits : (c : ColumnDef) (place : Option ℕ) → Contains def.columns c → position (is_named c.name) among ≡ place → is_some place ≡ true → fits (c, slot_value literals (c, place)) ≡ true
   slot_fits c None there at some = absurd (false≢true some)
   slot_fits c (Some i) there at some =
       let stands = position-Some (is_named c.name) among i c at in

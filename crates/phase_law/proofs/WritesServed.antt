@@ -14,7 +14,7 @@ use Rattle.sql_text.specs.declared.link.LinkRequest.TheVariants as request
 use Rattle.catalog.specs.declared.tables.Table.{Table}
 use Rattle.catalog.specs.Views.{View}
 use Rattle.stmt_plan.specs.Inserts.{key_name}
-use Rattle.plain_tables.specs.Rows.{Row, FitsColumns, fits_columns}
+use Rattle.plain_tables.specs.Rows.{Row, fits_columns, FitsColumns}
 use Rattle.plain_tables.specs.Statements.{Writes, Puts, Dels}
 use Rattle.plain_tables.proofs.Members.{at_front, behind}
 use Rattle.branch_store.specs.declared.branch.Branch as backend

@@ -1,6 +1,5 @@
 pub mod Inserts
 pub mod Partitions
 pub mod Rows
-pub mod Scans
 pub mod Statements
 pub mod Updates

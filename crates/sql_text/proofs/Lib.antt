@@ -11,6 +11,7 @@ pub mod Statements
 pub mod LinkRules
 pub mod Requests
 pub mod Bytes
+pub mod Seeking
 pub mod Parses
 pub mod Joined
 pub mod Written

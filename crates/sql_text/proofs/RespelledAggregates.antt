@@ -1,5 +1,5 @@
 -- What is printed of aggregates has tokens that spell them.
-use Rattle.std.proofs.Common.{◌≡◌, ℕ, zero, suc, List, [], ◌∷◌, ◌++◌, refl, subst, ◌∙◌, inl, inr, codes}
+use Rattle.std.proofs.Common.{◌≡◌, ℕ, zero, suc, map, List, [], ◌∷◌, ◌++◌, refl, subst, ◌∙◌, inl, inr, codes}
 use Rattle.sql_values.specs.declared.tree.ColumnName.{ColumnName}
 use Rattle.sql_text.specs.declared.link.AggregateCall.{AggregateCall}
 use Rattle.sql_text.specs.declared.link.AggregateCall.TheVariants as calls
@@ -8,7 +8,7 @@ use Rattle.sql_text.specs.declared.token.Fixed.{Fixed}
 use Rattle.sql_text.specs.declared.token.Fixed.TheVariants.{Count, Max, Min, Sum, Open, Close, Star}
 use Rattle.sql_text.specs.declared.token.Token.{Token}
 use Rattle.sql_text.specs.declared.token.Token.TheVariants as tokens
-use Rattle.sql_text.specs.Rules.{is, ◌⊳◌, parenthesized}
+use Rattle.sql_text.specs.Rules.{is, ◌⊳◌, ◌▷◌, parenthesized}
 use Rattle.sql_text.specs.Grammar.{column, alias, of_column, aggregate, aggregate_item}
 use Rattle.sql_text.specs.Printing.{column_text, alias_text, call_text, aggregate_item_text}
 use Rattle.sql_text.proofs.Written.{Atom, Prefix, closing_of, atom_suffix, prefix_atom, separator_alone}

@@ -10,7 +10,7 @@ use Rattle.sql_text.specs.declared.statement.Limit.{Limit as RowLimit}
 use Rattle.sql_text.specs.declared.token.Fixed.TheVariants.{By, Desc, Limit, Offset, Order, Comma}
 use Rattle.sql_text.specs.declared.token.Token.{Token}
 use Rattle.sql_text.specs.declared.token.Token.TheVariants as tokens
-use Rattle.sql_text.specs.Rules.{is, one, series}
+use Rattle.sql_text.specs.Rules.{is, one, ◌⊳◌, ◌▷◌, ◌∣◌, series}
 use Rattle.sql_text.specs.Grammar.{count_of, direction, sort, sorts, order, behind_count, limits, limit}
 use Rattle.sql_text.specs.Printing.{joined_text, column_text, direction_text, sort_text, order_text, offset_text, limit_text}
 use Rattle.sql_text.proofs.Written.{Atom, Suffix, nothing_behind, atom_suffix, separator_atom}

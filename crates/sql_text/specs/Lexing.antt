@@ -1,6 +1,7 @@
 -- How tokens are read, step by step.
-use Rattle.std.specs.Prelude.{ℕ, ◌==◌, ◌++◌, List, [], ◌∷◌, Option, Some, None, if◌then◌else◌}
-use Rattle.sql_text.specs.Tokens.{starts, rest_of, escape_of, onto}
+use Rattle.std.specs.Prelude.{ℕ, ◌-◌, ◌==◌, ◌++◌, List, [], ◌∷◌, Option, Some, None, if◌then◌else◌}
+use Rattle.sql_text.specs.declared.token.Token.{Token}
+use Rattle.sql_text.specs.Tokens.{starts, rest_of, escape_of, onto, Placed}
 
 -- with these bytes in front
 abbrev pub onto_all : List ℕ → Option (List ℕ × List ℕ) → Option (List ℕ × List ℕ)
@@ -34,3 +35,13 @@ text_by (Some (Some b, rest)) again = onto b (again rest)
 -- a number above all that are read
 abbrev pub cap : ℕ
 cap = 170141183460469231731687303715884105729
+
+-- the token that a step finds, with how many bytes are left from its first one on
+abbrev pub found_at : ℕ → Option Token → List Placed
+found_at left None = []
+found_at left (Some t) = (t, left) ∷ []
+
+-- how many tokens stand before one that is looked for, behind what a step finds; None where that is the one
+abbrev pub passed : ℕ → Option Token → Option ℕ
+passed ahead None = Some ahead
+passed ahead (Some t) = if ahead == 0 then None else Some (ahead - 1)

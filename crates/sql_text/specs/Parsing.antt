@@ -29,12 +29,18 @@ abbrev pub wrong_byte : List ℕ → Option ℕ
 wrong_byte text = if is_utf8 text then None else Some (utf8_valid_len text)
 
 -- the first of both faults
+abbrev pub fault_at : ℕ → Bool → ParseFault
+fault_at place deep = if deep then Deep place else Syntax place
+
+abbrev pub first_by : ℕ → Option ℕ → Bool → ParseFault
+first_by place None deep = fault_at place deep
+first_by place (Some wrong) deep = if nat_lt place wrong then fault_at place deep else Syntax wrong
+
 abbrev pub token_fault : List ℕ → Stop → ParseFault
-token_fault text stop = if stop.deep then Deep (place_of text stop.left) else Syntax (place_of text stop.left)
+token_fault text stop = fault_at (place_of text stop.left) stop.deep
 
 abbrev pub first_fault : List ℕ → Option ℕ → Stop → ParseFault
-first_fault text None stop = token_fault text stop
-first_fault text (Some wrong) stop = if nat_lt (place_of text stop.left) wrong then token_fault text stop else Syntax wrong
+first_fault text wrong stop = first_by (place_of text stop.left) wrong stop.deep
 
 abbrev pub with_bytes : {X : Type 0} → List ℕ → Option ℕ → Result X Stop → Result X ParseFault
 with_bytes text wrong (Err stop) = Err (first_fault text wrong stop)

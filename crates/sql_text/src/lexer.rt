@@ -1,6 +1,7 @@
 //! Tokens out of bytes, in one pass.
-ghost use Rattle.std.specs.Prelude.{◌≡◌, ◌+◌, ◌++◌, [], ◌∷◌, map, IfOk, OnOk, option_map};
+ghost use Rattle.std.specs.Prelude.{◌≡◌, ◌+◌, ◌++◌, [], ◌∷◌, map, length, slice_index, IfOk, OnOk, option_map};
 ghost use Rattle.sql_text.specs.Tokens.{starts as starts_with_byte, rest_of, symbol_at, lexeme_at, is_bad as token_is_bad, ends_operand as operand_ends, step_at, Placed, other_at, dialect_tokens, in_dialect as token_in_dialect};
+ghost use Rattle.sql_text.specs.Lexing.{found_at, passed as passed_behind};
 ghost use Rattle.sql_text.specs.Parsing.{lefts_of};
 
 use crate::lexer::blanks::{comment, is_blank};
@@ -34,34 +35,6 @@ fn symbol(first: u8, bytes: &[u8]) -> (Token, &[u8])
         (b'>', _) => (Token::Fixed(Fixed::Greater), bytes),
         (b'!', [b'=', rest @ ..]) => (Token::Fixed(Fixed::NotEqual), rest),
         _ => (Token::Bad, bytes),
-    }
-}
-
-/// The tokens of a text, each with how many bytes are left from its first one on.
-#[derive(Debug, Drop)]
-pub struct Tokens {
-    pub tokens: Vec<Token>,
-    pub lefts: Vec<usize>,
-}
-
-impl Tokens {
-    fn new(alloc: Global) -> Tokens
-        ensures tokens { result.tokens.items ≡ [] }
-        ensures lefts { result.lefts.items ≡ [] }
-    {
-        Tokens {
-            tokens: Vec::new(alloc),
-            lefts: Vec::new(alloc),
-        }
-    }
-
-    fn push(&mut self, token: Token, left: usize) -> Result<(), AllocError>
-        ensures tokens { OnOk result (self.new.tokens.items ≡ self.old.tokens.items ++ token ∷ []) }
-        ensures lefts { OnOk result (self.new.lefts.items ≡ self.old.lefts.items ++ left ∷ []) }
-    {
-        self.tokens.push(token)?;
-        self.lefts.push(left)?;
-        Ok(())
     }
 }
 
@@ -150,26 +123,21 @@ fn lexeme(alloc: Global, operand: bool, bytes: &[u8]) -> Result<(Option<Token>, 
     Ok((Some(token), rest))
 }
 
-/// One step: adds the token at the front, if one stands there, and answers what stands before what is left, and that.
+/// One step: the token at the front, if one stands there, and, unless it is the last one, what stands before what is left, and that.
 fn step<'a>(
     alloc: Global,
-    dialect: Dialect,
-    out: &mut Tokens,
     before: Before,
     bytes: &'a [u8],
-) -> Result<Option<(Before, &'a [u8])>, AllocError>
-    ensures tokens { OnOk result (out.new.tokens.items ≡ out.old.tokens.items ++ map (λ (p : Placed). token_in_dialect dialect p.0) (step_at before bytes.now).0) }
-    ensures lefts { OnOk result (out.new.lefts.items ≡ out.old.lefts.items ++ map (λ (p : Placed). p.1) (step_at before bytes.now).0) }
-    ensures rest { IfOk result (λ x. option_map (λ y. (y.0, y.1.now)) x ≡ (step_at before bytes.now).1) }
+) -> Result<(Option<Token>, Option<(Before, &'a [u8])>), AllocError>
+    ensures found { IfOk result (λ x. found_at (length bytes.now) x.0 ≡ (step_at before bytes.now).0) }
+    ensures rest { IfOk result (λ x. option_map (λ y. (y.0, y.1.now)) x.1 ≡ (step_at before bytes.now).1) }
 {
     let [first, ..] = bytes else {
-        return Ok(None);
+        return Ok((None, None));
     };
-    let left = bytes.len();
     let touches = continues_name(*first);
     if before.touching && touches {
-        out.push(Token::Bad, left)?;
-        return Ok(None);
+        return Ok((Some(Token::Bad), None));
     }
     let (token, rest) = lexeme(alloc, before.operand, bytes)?;
     let Some(token) = token else {
@@ -177,41 +145,98 @@ fn step<'a>(
             touching: touches,
             operand: before.operand,
         };
-        return Ok(Some((next, rest)));
+        return Ok((None, Some((next, rest))));
     };
     let last = is_bad(&token);
     let next = Before {
         touching: touches,
         operand: ends_operand(&token),
     };
-    out.push(in_dialect(dialect, token), left)?;
     if last {
-        Ok(None)
+        Ok((Some(token), None))
     } else {
-        Ok(Some((next, rest)))
+        Ok((Some(token), Some((next, rest))))
     }
 }
 
-/// The tokens of a text of this kind, up to the first that is none.
-#[tactic(auto, unfolding(crate::specs::Tokens::placed_tokens, crate::specs::Parsing::lefts_of))]
-pub fn read_tokens(alloc: Global, dialect: Dialect, text: &[u8]) -> Result<Tokens, AllocError>
-    ensures tokens { IfOk result (λ t. t.tokens.items ≡ dialect_tokens dialect text.now) }
-    ensures lefts { IfOk result (λ t. t.lefts.items ≡ lefts_of text.now) }
+/// One step, whose token is added as it stands in a text of this kind.
+#[tactic(auto, using(crate::proofs::Seeking::none_added, crate::proofs::Seeking::one_added))]
+fn step_onto<'a>(
+    alloc: Global,
+    dialect: Dialect,
+    tokens: &mut Vec<Token>,
+    before: Before,
+    bytes: &'a [u8],
+) -> Result<Option<(Before, &'a [u8])>, AllocError>
+    ensures tokens { OnOk result (tokens.new.items ≡ tokens.old.items ++ map (λ (p : Placed). token_in_dialect dialect p.0) (step_at before bytes.now).0) }
+    ensures rest { IfOk result (λ x. option_map (λ y. (y.0, y.1.now)) x ≡ (step_at before bytes.now).1) }
 {
-    let mut out = Tokens::new(alloc);
+    let (token, next) = step(alloc, before, bytes)?;
+    let Some(token) = token else {
+        return Ok(next);
+    };
+    tokens.push(in_dialect(dialect, token))?;
+    Ok(next)
+}
+
+/// The tokens of a text of this kind, up to the first that is none.
+#[tactic(auto, unfolding(crate::specs::Tokens::placed_tokens))]
+pub fn read_tokens(alloc: Global, dialect: Dialect, text: &[u8]) -> Result<Vec<Token>, AllocError>
+    ensures { IfOk result (λ tokens. tokens.items ≡ dialect_tokens dialect text.now) }
+{
+    let mut tokens = Vec::new(alloc);
     let mut before = Before {
         touching: false,
         operand: false,
     };
     let mut rest = text;
     for _ in 0..text.len() {
-        match step(alloc, dialect, &mut out, before, rest)? {
-            None => return Ok(out),
+        match step_onto(alloc, dialect, &mut tokens, before, rest)? {
+            None => return Ok(tokens),
             Some((next, behind)) => {
                 before = next;
                 rest = behind;
             }
         }
     }
-    Ok(out)
+    Ok(tokens)
+}
+
+/// How many tokens stand before one that is looked for, behind what a step finds; None where that is the one.
+fn passed(ahead: usize, token: Option<Token>) -> Option<usize>
+    ensures { result ≡ passed_behind ahead token }
+{
+    match token {
+        None => Some(ahead),
+        Some(_) => { if ahead == 0 { None } else { Some(ahead - 1) } }
+    }
+}
+
+/// How many bytes of a text are left from the first one of the token on before which so many others stand, or none where there is no such token. The text
+/// is read again up to it, so that no places are kept beside tokens that are read without a fault.
+#[tactic(auto, unfolding(crate::specs::Tokens::placed_tokens, crate::specs::Parsing::lefts_of))]
+pub fn left_at(alloc: Global, text: &[u8], index: usize) -> Result<usize, AllocError>
+    ensures { IfOk result (λ left. left ≡ slice_index (lefts_of text.now) index) }
+{
+    let mut ahead = index;
+    let mut before = Before {
+        touching: false,
+        operand: false,
+    };
+    let mut rest = text;
+    for _ in 0..text.len() {
+        let (token, next) = step(alloc, before, rest)?;
+        match passed(ahead, token) {
+            None => return Ok(rest.len()),
+            Some(still) => match next {
+                None => return Ok(0),
+                Some((after, behind)) => {
+                    ahead = still;
+                    before = after;
+                    rest = behind;
+                }
+            },
+        }
+    }
+    Ok(0)
 }

@@ -1,21 +1,21 @@
 //! A statement out of its text, and a request out of a link text.
-ghost use Rattle.std.specs.Prelude.{◌≡◌, ◌⊎◌, IfOk, IfErr, Err, Ok};
+ghost use Rattle.std.specs.Prelude.{◌≡◌, ◌⊎◌, length, IfOk, IfErr, Err, Ok};
 ghost use Rattle.std.specs.Str.{IsUtf8};
 ghost use Rattle.sql_text.specs.declared.statement.Statement.{Statement};
 ghost use Rattle.sql_text.specs.Tokens.{tokens_of, link_tokens_of};
 ghost use Rattle.sql_text.specs.Grammar.{IsStatement};
 ghost use Rattle.sql_text.specs.declared.link.LinkRequest.{LinkRequest};
 ghost use Rattle.sql_text.specs.LinkGrammar.{IsRequest};
-ghost use Rattle.sql_text.specs.Parsing.{lefts_of, place_of, wrong_byte as first_wrong_byte, first_fault as first_of_faults, with_bytes, parsed, link_parsed, IsParsed, IsNoStatement, IsNoRequest};
+ghost use Rattle.sql_text.specs.Parsing.{lefts_of, place_of, first_by, wrong_byte as first_wrong_byte, first_fault as first_of_faults, with_bytes, parsed, link_parsed, IsParsed, IsNoStatement, IsNoRequest};
 
 use crate::fault::{ParseFault, ReadError, Stop};
-use crate::lexer::read_tokens;
+use crate::lexer::{left_at, read_tokens};
 use crate::link::LinkRequest;
 use crate::reading::requests::request;
 use crate::reading::statements::statement;
 use crate::statement::Statement;
 use crate::token::Dialect;
-use std::alloc::Global;
+use std::alloc::{AllocError, Global};
 
 /// How many openings may stand inside one another: parentheses of any use, and NOTs.
 pub const MOST_OPENINGS: u32 = 64;
@@ -33,39 +33,48 @@ fn wrong_byte(text: &[u8]) -> Option<usize>
     }
 }
 
-/// The first byte of the token that stands so many before the end, or the text's length.
-fn place(text: &[u8], lefts: &[usize], left: usize) -> u64
-    requires { lefts.now ≡ lefts_of text.now }
-    ensures { result ≡ place_of text.now left }
+/// The first byte of the token that stands so many before the end of so many tokens, which are all, or the text's length.
+fn place(alloc: Global, text: &[u8], count: usize, left: usize) -> Result<u64, AllocError>
+    requires { count ≡ length (lefts_of text.now) }
+    ensures { IfOk result (λ place. place ≡ place_of text.now left) }
 {
-    let at = lefts.len().saturating_sub(left);
-    let behind = match lefts.get(at) {
-        Some(behind) => *behind,
-        None => 0,
-    };
-    text.len().saturating_sub(behind) as u64
+    let behind = left_at(alloc, text, count.saturating_sub(left))?;
+    Ok(text.len().saturating_sub(behind) as u64)
 }
 
-/// The first fault of a text whose tokens aren't read.
-fn first_fault(text: &[u8], lefts: &[usize], wrong: Option<usize>, stop: Stop) -> ParseFault
-    requires { lefts.now ≡ lefts_of text.now }
-    ensures { result ≡ first_of_faults text.now wrong stop }
+/// The first of the fault at this place and that of the bytes.
+fn first_fault(place: u64, wrong: Option<usize>, deep: bool) -> ParseFault
+    ensures { result ≡ first_by place wrong deep }
 {
-    let place = place(text, lefts, stop.left);
     if let Some(wrong) = wrong {
         let wrong = wrong as u64;
         if place >= wrong {
             return ParseFault::Syntax { place: wrong };
         }
     }
-    if stop.deep {
+    if deep {
         ParseFault::Deep { place }
     } else {
         ParseFault::Syntax { place }
     }
 }
 
-#[tactic(auto, unfolding(crate::specs::Parsing::parsed))]
+/// The first fault of a text with so many tokens, which aren't read.
+fn fault(
+    alloc: Global,
+    text: &[u8],
+    count: usize,
+    wrong: Option<usize>,
+    stop: Stop,
+) -> Result<ParseFault, AllocError>
+    requires { count ≡ length (lefts_of text.now) }
+    ensures { IfOk result (λ fault. fault ≡ first_of_faults text.now wrong stop) }
+{
+    let place = place(alloc, text, count, stop.left)?;
+    Ok(first_fault(place, wrong, stop.deep))
+}
+
+#[tactic(auto, unfolding(crate::specs::Parsing::parsed), using(crate::proofs::Seeking::tokens_count))]
 fn parse_text(alloc: Global, text: &[u8]) -> Result<Statement, ParseFault>
     ensures { IsParsed result (parsed text.now) }
 {
@@ -73,7 +82,7 @@ fn parse_text(alloc: Global, text: &[u8]) -> Result<Statement, ParseFault>
         return Err(ParseFault::NoMemory);
     };
     let wrong = wrong_byte(text);
-    match statement(alloc, MOST_OPENINGS, tokens.tokens.as_slice()) {
+    match statement(alloc, MOST_OPENINGS, tokens.as_slice()) {
         Ok(statement) => match wrong {
             None => Ok(statement),
             Some(wrong) => Err(ParseFault::Syntax {
@@ -81,9 +90,10 @@ fn parse_text(alloc: Global, text: &[u8]) -> Result<Statement, ParseFault>
             }),
         },
         Err(ReadError::Memory) => Err(ParseFault::NoMemory),
-        Err(ReadError::Stopped(stop)) => {
-            Err(first_fault(text, tokens.lefts.as_slice(), wrong, stop))
-        }
+        Err(ReadError::Stopped(stop)) => match fault(alloc, text, tokens.len(), wrong, stop) {
+            Ok(fault) => Err(fault),
+            Err(_) => Err(ParseFault::NoMemory),
+        },
     }
 }
 
@@ -101,7 +111,7 @@ pub fn parse(alloc: Global, text: &[u8]) -> Result<Statement, ParseFault>
     parse_text(alloc, text)
 }
 
-#[tactic(auto, unfolding(crate::specs::Parsing::link_parsed))]
+#[tactic(auto, unfolding(crate::specs::Parsing::link_parsed), using(crate::proofs::Seeking::link_tokens_count))]
 fn parse_link_text(alloc: Global, text: &[u8]) -> Result<LinkRequest, ParseFault>
     ensures { IsParsed result (link_parsed text.now) }
 {
@@ -109,7 +119,7 @@ fn parse_link_text(alloc: Global, text: &[u8]) -> Result<LinkRequest, ParseFault
         return Err(ParseFault::NoMemory);
     };
     let wrong = wrong_byte(text);
-    match request(alloc, MOST_LINK_OPENINGS, tokens.tokens.as_slice()) {
+    match request(alloc, MOST_LINK_OPENINGS, tokens.as_slice()) {
         Ok(request) => match wrong {
             None => Ok(request),
             Some(wrong) => Err(ParseFault::Syntax {
@@ -117,9 +127,10 @@ fn parse_link_text(alloc: Global, text: &[u8]) -> Result<LinkRequest, ParseFault
             }),
         },
         Err(ReadError::Memory) => Err(ParseFault::NoMemory),
-        Err(ReadError::Stopped(stop)) => {
-            Err(first_fault(text, tokens.lefts.as_slice(), wrong, stop))
-        }
+        Err(ReadError::Stopped(stop)) => match fault(alloc, text, tokens.len(), wrong, stop) {
+            Ok(fault) => Err(fault),
+            Err(_) => Err(ParseFault::NoMemory),
+        },
     }
 }
 

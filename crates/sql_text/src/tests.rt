@@ -209,14 +209,10 @@ fn long_texts(rt: HostRuntime) -> Result<(), Fail> {
     Ok(())
 }
 
-fn printed(rt: &HostRuntime, statement: &Statement) -> Result<Bytes, Fail> {
-    Ok(print(rt.alloc(), statement)?)
-}
-
 // The canonical text of a statement, or nothing where it is refused.
 fn canonical(rt: &HostRuntime, text: &[u8]) -> Result<Bytes, Fail> {
     match parse(rt.alloc(), text) {
-        Ok(statement) => printed(rt, &statement),
+        Ok(statement) => Ok(print(rt.alloc(), &statement)?),
         Err(_) => Ok(Bytes::new(rt.alloc())),
     }
 }

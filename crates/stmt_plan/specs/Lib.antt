@@ -1,5 +1,4 @@
 pub mod Apart
-pub mod Choices
 pub mod Chosen
 pub mod Faults
 pub mod Finished

@@ -1,5 +1,4 @@
-use front_rows::{Aggregate, Order};
-use list_types::{Listed, Text};
+use list_types::Listed;
 use sql_text::ScanItems;
 use sql_values::{Cond, Expr, Intervals, LockMode, Name, PartNos, Rows, TableNo};
 
@@ -27,42 +26,12 @@ pub struct Plan {
 pub enum Work {
     /// These rows are added, in the order of the statement. Each has a value for each column of the table, in the table's order.
     Insert(Rows),
-    /// Columns of the rows are the answer.
-    Select(Selected),
-    /// These aggregates are the answer, as one row.
-    Aggregate(CellColumns),
+    /// These columns of the rows are the answer.
+    Select(Picks),
     /// These columns of the rows are set, one after the other.
     Update(SetColumns),
     /// The rows go.
     Delete,
-}
-
-/// What a SELECT makes of rows: it sorts them, leaves out the first `skip` of them, and gives these columns of at most `most` of the others.
-#[derive(Debug, Drop)]
-pub struct Selected {
-    pub picks: Picks,
-    pub order: Order,
-    pub skip: u64,
-    pub most: Option<u64>,
-}
-
-/// An aggregate, and the name that the answer gives it.
-#[derive(Clone, Debug, PartialEq, Eq, Drop)]
-pub struct CellColumn {
-    pub aggregate: Aggregate,
-    pub name: Text,
-}
-
-/// Aggregates of an answer, in order.
-pub type CellColumns = Listed<CellColumn>;
-
-/// The columns of an answer.
-#[derive(Clone, Debug, PartialEq, Eq, Drop)]
-pub enum AnswerColumns {
-    /// Columns of rows.
-    Picks(Picks),
-    /// Aggregates over rows.
-    Cells(CellColumns),
 }
 
 /// A column that an UPDATE sets: its place in the table, and the expression that gives its value.

@@ -208,7 +208,7 @@ pub(crate) fn set(
     ensures err { IfErr result (λ fault. (fault ≡ StmtFault.NoMemory) ⊎ (update_fault table.now update.now ≡ Some fault)) }
 {
     let (sets, fit) = settings(alloc, table, update.sets.as_slice())?;
-    let compare = where_fits(alloc, table, &table.name, &update.cond)?;
+    let compare = where_fits(alloc, table, &update.cond)?;
     if is_key_set(table, sets.as_slice()) {
         return Err(StmtFault::KeyChanged);
     }

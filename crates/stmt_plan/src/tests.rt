@@ -262,11 +262,9 @@ fn is_pick(pick: &Pick, column: u32, name: &str) -> bool {
 
 fn picks(plan: &Plan, table: &str) -> bool {
     match &plan.work {
-        Work::Select(chosen) => match chosen.picks.picks.as_slice() {
+        Work::Select(chosen) => match chosen.picks.as_slice() {
             [first, second] => {
-                chosen.picks.table.as_str() == table
-                    && is_pick(first, 1, "x")
-                    && is_pick(second, 0, "k")
+                chosen.table.as_str() == table && is_pick(first, 1, "x") && is_pick(second, 0, "k")
             }
             _ => false,
         },

@@ -26,7 +26,7 @@ mod writing;
 
 pub use changing::Changing;
 pub use deed::{Deed, Outcome, PlacedRow, PlacedRows, Refusal};
-pub use forms::{LONGEST_TEXT, is_cells, is_done, is_rows};
+pub use forms::{LONGEST_TEXT, is_done, is_rows};
 pub use job::{Job, Kinds, TableScan};
 pub use owed::Owed;
 pub use partitions::{PlacedKey, place_row};

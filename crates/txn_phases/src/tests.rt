@@ -1,9 +1,8 @@
 //! A statement through its phases, by hand.
 
 use crate::*;
-use front_rows::Sort;
 use list_types::{Listed, Text};
-use sql_text::{LinkAnswer, LinkRequest, ScanItems};
+use sql_text::{LinkAnswer, LinkRequest};
 use sql_values::{Kind, LockMode, Name, Row, Rows, Value, Xid};
 use std::alloc::Global;
 use std::test::Fail;
@@ -52,54 +51,24 @@ fn rows(alloc: Global, keys: &[i64]) -> Result<Rows, Fail> {
     Ok(rows)
 }
 
-/// A SELECT of all rows, in the order of their keys.
-fn by_key(alloc: Global) -> Result<Deed, Fail> {
-    let mut order = Listed::new(alloc);
-    order.push(Sort {
-        column: 0,
-        rising: true,
-    })?;
-    Ok(Deed::Select {
-        order,
-        skip: 0,
-        most: None,
-    })
-}
-
 /// The statement on two servers: partition 0 on both, partition 1 on the second.
-fn branches(alloc: Global) -> Result<Branches, Fail> {
+fn job(alloc: Global, deed: Deed) -> Result<Job, Fail> {
     let mut branches = Listed::new(alloc);
     branches.push(branch(alloc, 0)?)?;
     branches.push(branch(alloc, 1)?)?;
-    Ok(branches)
-}
-
-fn targets(alloc: Global) -> Result<Targets, Fail> {
     let mut targets = Listed::new(alloc);
     targets.push(target(alloc, 0, 0, true)?)?;
     targets.push(target(alloc, 0, 1, false)?)?;
     targets.push(target(alloc, 1, 1, true)?)?;
-    Ok(targets)
-}
-
-fn scan(alloc: Global) -> Result<TableScan, Fail> {
     let mut kinds = Listed::new(alloc);
     kinds.push(Kind::BigInt)?;
-    Ok(TableScan {
+    let scan = TableScan {
         key: name(alloc, "k")?,
         place: 0,
         kinds,
-        items: ScanItems::All,
         cond: None,
-        limit: None,
         lock: LockMode::Exclusive,
-    })
-}
-
-fn job(alloc: Global, deed: Deed) -> Result<Job, Fail> {
-    let branches = branches(alloc)?;
-    let targets = targets(alloc)?;
-    let scan = scan(alloc)?;
+    };
     Ok(Job::new(alloc, branches, targets, scan, deed))
 }
 
@@ -155,7 +124,7 @@ fn hears(alloc: Global, job: &mut Job, answer: LinkAnswer, wanted: u64) -> Resul
 
 /// An answer, and what it leads to.
 #[derive(Clone, Copy)]
-pub(crate) enum Step {
+enum Step {
     Done(u64),
     Finds(&'static [i64], u64),
     Refuses(u64),
@@ -178,22 +147,15 @@ fn plays(alloc: Global, job: &mut Job, step: Step) -> Result<bool, Fail> {
     }
 }
 
-fn begins(alloc: Global, job: &mut Job) -> Result<bool, Fail> {
-    Ok(code(&job.begin(alloc)?) == 20_000_011)
-}
-
-fn follows(alloc: Global, job: &mut Job, steps: &[Step]) -> Result<bool, Fail> {
-    let mut right = true;
+/// The statement begins with two STARTs, and then each answer leads to what is wanted.
+fn runs(alloc: Global, deed: Deed, steps: &[Step]) -> Result<bool, Fail> {
+    let mut job = job(alloc, deed)?;
+    let begun = job.begin(alloc)?;
+    let mut right = code(&begun) == 20_000_011;
     for step in steps {
-        right = plays(alloc, job, *step)? && right;
+        right = plays(alloc, &mut job, *step)? && right;
     }
     Ok(right)
-}
-
-/// The statement begins with two STARTs, and then each answer leads to what is wanted.
-pub(crate) fn runs(alloc: Global, deed: Deed, steps: &[Step]) -> Result<bool, Fail> {
-    let mut job = job(alloc, deed)?;
-    Ok(begins(alloc, &mut job)? && follows(alloc, &mut job, steps)?)
 }
 
 const SELECTED: [Step; 11] = [
@@ -212,7 +174,7 @@ const SELECTED: [Step; 11] = [
 
 #[test]
 fn a_select_is_merged(rt: HostRuntime) -> Result<(), Fail> {
-    assert!(rt; runs(rt.alloc(), by_key(rt.alloc())?, &SELECTED)?);
+    assert!(rt; runs(rt.alloc(), Deed::Select, &SELECTED)?);
     Ok(())
 }
 
@@ -277,13 +239,13 @@ const REFUSED: [Step; 3] = [
 
 #[test]
 fn a_refused_start_rolls_back_the_others(rt: HostRuntime) -> Result<(), Fail> {
-    assert!(rt; runs(rt.alloc(), by_key(rt.alloc())?, &REFUSED)?);
+    assert!(rt; runs(rt.alloc(), Deed::Select, &REFUSED)?);
     Ok(())
 }
 
 /// The job after the first START was answered, as it is owed.
 fn owed(alloc: Global) -> Result<Owed, Fail> {
-    let mut job = job(alloc, by_key(alloc)?)?;
+    let mut job = job(alloc, Deed::Select)?;
     let _asks = job.begin(alloc)?;
     let _waits = plays(alloc, &mut job, Step::Done(1))?;
     Ok(job.into_owed())

@@ -3,10 +3,9 @@
 //! Requests are lists of numbers: the server, what is asked, and for a PUT the values of its rows, for a DEL its keys.
 
 use crate::*;
-use front_rows::Sort;
 use list_types::{Listed, Text};
 use part_rules::Rule;
-use sql_text::{LinkAnswer, LinkRequest, ScanItems};
+use sql_text::{LinkAnswer, LinkRequest};
 use sql_values::{
     Addend, ColumnDef, ColumnDefs, ColumnName, Expr, Kind, Literal, LockMode, Name, Row, Rows,
     TableDef, Value, Xid,
@@ -215,23 +214,9 @@ fn changing(alloc: Global, terms: &[(u32, Term)]) -> Result<Changing, Fail> {
     })
 }
 
-/// All rows, in the order of their keys.
-fn by_key(alloc: Global) -> Result<Deed, Fail> {
-    let mut order = Listed::new(alloc);
-    order.push(Sort {
-        column: 0,
-        rising: true,
-    })?;
-    Ok(Deed::Select {
-        order,
-        skip: 0,
-        most: None,
-    })
-}
-
 fn deed(alloc: Global, does: Does) -> Result<Deed, Fail> {
     match does {
-        Does::Reads => by_key(alloc),
+        Does::Reads => Ok(Deed::Select),
         Does::Sets(terms) => Ok(Deed::Update(changing(alloc, terms)?)),
         Does::Deletes => Ok(Deed::Delete(Placing::new(Rule::Hash(2)))),
     }
@@ -274,9 +259,7 @@ fn scan(alloc: Global) -> Result<TableScan, Fail> {
         key: name(alloc, "k")?,
         place: 0,
         kinds,
-        items: ScanItems::All,
         cond: None,
-        limit: None,
         lock: LockMode::Exclusive,
     })
 }
@@ -361,78 +344,38 @@ fn hear(alloc: Global, job: &mut Job, answer: LinkAnswer) -> Result<Progress, Fa
     Ok(job.hear(alloc, answer)?)
 }
 
-fn pass(alloc: Global, job: &mut Job, answer: LinkAnswer) -> Result<(), Fail> {
-    let _next = hear(alloc, job, answer)?;
-    Ok(())
-}
-
-fn begin(alloc: Global, job: &mut Job) -> Result<(), Fail> {
-    let _starts = job.begin(alloc)?;
-    Ok(())
-}
-
-fn answer(alloc: Global, found: &[Three]) -> Result<LinkAnswer, Fail> {
-    Ok(LinkAnswer::Rows(rows(alloc, found)?))
-}
-
-fn find(alloc: Global, job: &mut Job, found: &[Three]) -> Result<(), Fail> {
-    pass(alloc, job, answer(alloc, found)?)
-}
-
 /// What follows the last scan.
 fn scanned(alloc: Global, job: &mut Job, found: &[&[Three]; 4]) -> Result<Progress, Fail> {
-    let [first, second, third, last] = found;
-    begin(alloc, job)?;
-    pass(alloc, job, LinkAnswer::Done(0))?;
-    pass(alloc, job, LinkAnswer::Done(0))?;
-    find(alloc, job, first)?;
-    find(alloc, job, second)?;
-    find(alloc, job, third)?;
-    hear(alloc, job, answer(alloc, last)?)
-}
-
-fn asks_of(alloc: Global, job: &mut Job, found: &[&[Three]; 4]) -> Result<Vec<i64>, Fail> {
-    let next = scanned(alloc, job, found)?;
-    asked(alloc, &next)
-}
-
-fn end_of(progress: &Progress) -> Option<i64> {
-    match progress {
-        Progress::Over { ending: _, outcome } => Some(told(outcome)),
-        _ => None,
+    let _starts = job.begin(alloc)?;
+    let _waits = hear(alloc, job, LinkAnswer::Done(0))?;
+    let mut last = hear(alloc, job, LinkAnswer::Done(0))?;
+    for answer in found {
+        last = hear(alloc, job, LinkAnswer::Rows(rows(alloc, answer)?))?;
     }
-}
-
-fn done(alloc: Global, job: &mut Job) -> Result<Option<i64>, Fail> {
-    let next = hear(alloc, job, LinkAnswer::Done(0))?;
-    Ok(end_of(&next))
+    Ok(last)
 }
 
 /// How it comes out, where all else is done.
 fn outcome(alloc: Global, job: &mut Job) -> Result<i64, Fail> {
     for _ in 0..100 {
-        if let Some(end) = done(alloc, job)? {
-            return Ok(end);
+        if let Progress::Over { ending: _, outcome } = hear(alloc, job, LinkAnswer::Done(0))? {
+            return Ok(told(&outcome));
         }
     }
     Err(Fail::from("no end"))
 }
 
-fn job_of(alloc: Global, deed: Deed) -> Result<Job, Fail> {
-    let branches = branches(alloc)?;
-    let targets = targets(alloc)?;
-    let scan = scan(alloc)?;
-    Ok(Job::new(alloc, branches, targets, scan, deed))
-}
-
-fn goes_right(alloc: Global, job: &mut Job, case: &Case) -> Result<bool, Fail> {
-    let asks = asks_of(alloc, job, &case.found)?;
-    Ok(asks.as_slice() == case.asks && outcome(alloc, job)? == case.outcome)
-}
-
 fn is_right(alloc: Global, case: &Case) -> Result<bool, Fail> {
-    let mut job = job_of(alloc, deed(alloc, case.does)?)?;
-    goes_right(alloc, &mut job, case)
+    let mut job = Job::new(
+        alloc,
+        branches(alloc)?,
+        targets(alloc)?,
+        scan(alloc)?,
+        deed(alloc, case.does)?,
+    );
+    let next = scanned(alloc, &mut job, &case.found)?;
+    let asks = asked(alloc, &next)?;
+    Ok(asks.as_slice() == case.asks && outcome(alloc, &mut job)? == case.outcome)
 }
 
 #[test]

@@ -7,15 +7,13 @@ ghost use Rattle.sql_values.specs.declared.table.ColumnDef.{ColumnDef};
 ghost use Rattle.part_rules.specs.KeyRows.{HasOwnKeyName};
 ghost use Rattle.plain_tables.specs.Rows.{Rises, kept};
 ghost use Rattle.branch_store.specs.Scanning.{AreOfTable, MissesNone, lies_among, lies_within};
-ghost use Rattle.plain_tables.specs.Scans.{first_rows};
-ghost use Rattle.branch_store.specs.Store.{found as answer_meant, found_rows};
+ghost use Rattle.branch_store.specs.Store.{found as found_by, first_rows};
 
 use super::{RemoteTable, copied_row};
 use crate::Change;
-use crate::counting::{cells_over, first_row};
 use list_types::Listed;
 use part_rules::keys_of;
-use sql_text::{LinkAnswer, Scan, ScanItems};
+use sql_text::Scan;
 use sql_values::{ColumnDef, Cond, Interval, Intervals, Name, Rows, TableDef};
 use std::alloc::{AllocError, Global};
 
@@ -142,60 +140,34 @@ impl RemoteTable {
         alloc: Global,
         keys: &Intervals,
         changes: &[Change],
-        cond: &Option<Cond>,
-        limit: Option<u64>,
+        scan: &Scan,
     ) -> Result<Rows, AllocError>
         requires table { AreOfTable changes.now self.now }
-        requires keys { MissesNone self.now.def cond.now keys.now }
-        ensures { IfOk result (λ rows. rows ≡ found_rows changes.now self.now cond.now limit) }
+        requires keys { MissesNone self.now.def scan.now.cond keys.now }
+        ensures { IfOk result (λ rows. rows ≡ found_by changes.now self.now scan.now) }
     {
         if self.is_changed(changes) {
             let mut part = self.part(alloc, keys)?;
             part.change_all(changes)?;
-            part.limited(alloc, cond, limit)
+            part.limited(alloc, &scan.cond, scan.limit)
         } else {
-            self.limited_among(alloc, keys, cond, limit)
+            self.limited_among(alloc, keys, &scan.cond, scan.limit)
         }
     }
 
-    /// The first rows after these changes on which a condition holds. One that keeps few keys costs a search for each interval of them, and the rows that stand
-    /// there.
-    fn found(
-        &self,
-        alloc: Global,
-        changes: &[Change],
-        cond: &Option<Cond>,
-        limit: Option<u64>,
-    ) -> Result<Rows, AllocError>
-        requires { AreOfTable changes.now self.now }
-        ensures { IfOk result (λ rows. rows ≡ found_rows changes.now self.now cond.now limit) }
-    {
-        match self.keys_for(alloc, cond)? {
-            Some(keys) => self.found_among(alloc, &keys, changes, cond, limit),
-            None => self.found_by_walk(alloc, changes, cond, limit),
-        }
-    }
-
-    /// What a scan is answered after these changes: the first rows, or the aggregates over all of them, as one row.
-    pub(crate) fn answer(
+    /// What a scan finds after these changes. A condition that keeps few keys costs a search for each interval of them, and the rows that stand there.
+    pub(crate) fn found(
         &self,
         alloc: Global,
         changes: &[Change],
         scan: &Scan,
-    ) -> Result<LinkAnswer, AllocError>
+    ) -> Result<Rows, AllocError>
         requires { AreOfTable changes.now self.now }
-        ensures { IfOk result (λ answer. answer ≡ answer_meant changes.now self.now scan.now) }
+        ensures { IfOk result (λ rows. rows ≡ found_by changes.now self.now scan.now) }
     {
-        match &scan.items {
-            ScanItems::All => {
-                let rows = self.found(alloc, changes, &scan.cond, scan.limit)?;
-                Ok(LinkAnswer::Rows(rows))
-            }
-            ScanItems::Aggregates(calls) => {
-                let rows = self.found(alloc, changes, &scan.cond, None)?;
-                let cells = cells_over(alloc, &self.def, calls.as_slice(), rows.as_slice())?;
-                Ok(LinkAnswer::Cells(first_row(alloc, scan.limit, cells)?))
-            }
+        match self.keys_for(alloc, &scan.cond)? {
+            Some(keys) => self.found_among(alloc, &keys, changes, scan),
+            None => self.found_by_walk(alloc, changes, scan),
         }
     }
 }

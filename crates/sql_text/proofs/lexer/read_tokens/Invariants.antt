@@ -6,6 +6,5 @@ use Rattle.sql_text.proofs.lexer.read_tokens.Given as goal
 abbrev pub invariant-loop : goal.invariant-loop
 invariant-loop l = record {
   end_is : l.end ≡ length l.text;
-  tokens : l.out.tokens.items ++ map (λ (p : Placed). in_dialect l.dialect p.0) (tokens_within (l.end - l.counter) l.before l.rest) ≡ map (λ (p : Placed). in_dialect l.dialect p.0) (tokens_within (length l.text) at_start l.text);
-  lefts : l.out.lefts.items ++ map (λ (p : Placed). p.1) (tokens_within (l.end - l.counter) l.before l.rest) ≡ map (λ (p : Placed). p.1) (tokens_within (length l.text) at_start l.text);
+  tokens : l.tokens.items ++ map (λ (p : Placed). in_dialect l.dialect p.0) (tokens_within (l.end - l.counter) l.before l.rest) ≡ map (λ (p : Placed). in_dialect l.dialect p.0) (tokens_within (length l.text) at_start l.text);
 }

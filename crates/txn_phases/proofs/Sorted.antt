@@ -3,13 +3,8 @@ use Rattle.std.proofs.Common.{◌≡◌, ℕ, suc, zero, ◌+◌, ◌<◌, ◌�
 use Rattle.std.specs.Cmp.{IsStrictWeakOrder}
 use Rattle.std.specs.List.Sorted.{IsSortedBy, IsStableBy, ties}
 use Rattle.std.proofs.lemmas.Bool.{cases_Bool, false≢true, and_parts}
-use Rattle.front_rows.specs.Comparing.{before}
-use Rattle.front_rows.specs.Gathering.{all_rows}
-use Rattle.front_rows.specs.Laws.{MergedRowsAreSorted}
-use Rattle.front_rows.specs.Merging.{cut}
 use Rattle.front_rows.proofs.OneList.{one_list}
-use Rattle.front_rows.proofs.Orders.{before_ranks}
-use Rattle.front_rows.specs.Sorting.{insert_by, sorted_by}
+use Rattle.txn_phases.specs.Sorting.{insert_by, sorted_by}
 
 -- no element comes before the one in front of it
 abbrev Rises : {X : Type 0} → (X → X → Bool) → List X → Type 0
@@ -82,7 +77,3 @@ module _ {X : Type 0} (lt : X → X → Bool) (o : IsStrictWeakOrder lt) where
   -- a list in this order, in which elements that tie stay in theirs, is the sorted one
   pub is_sorted_list : (xs ys : List X) → IsSortedBy lt ys → IsStableBy lt xs ys → ys ≡ sorted_by lt xs
   is_sorted_list xs ys up stable = one_list lt o ys (sorted_by lt xs) up (sorted_from lt (sorted_by lt xs) (sorted_rises xs)) (λ z. stable z ∙ sym (sorted_keeps z xs))
-
-pub merged_rows_are_sorted : MergedRowsAreSorted
-merged_rows_are_sorted parts order skip most rows merged =
-    merged.cut_is ∙ ap (cut skip most) (is_sorted_list (before order) (before_ranks order) (all_rows parts) merged.sorted merged.in_order.sorted_by merged.in_order.stable)
