@@ -21,13 +21,13 @@ use Rattle.part_rules.specs.Keeps.{keeps}
 use Rattle.part_rules.specs.KeyRows.{HasOwnKeyName}
 use Rattle.plain_tables.specs.Inserts.{put_all}
 use Rattle.plain_tables.specs.Rows.{Row, HasKey, Rises, by_key, key_of, holds_on, kept, FitsColumns}
+use Rattle.plain_tables.specs.Scans.{first_rows}
 use Rattle.plain_tables.proofs.Merged.{key_is_kept}
 use Rattle.branch_store.specs.declared.branch.Change.{Change}
 use Rattle.branch_store.specs.Changes.{after}
 use Rattle.branch_store.specs.Opening.{is_definition}
 use Rattle.branch_store.specs.Scanning.{AreOfTable, MissesNone, lies_among, lies_within}
 use Rattle.branch_store.specs.Sound.{AreRows}
-use Rattle.branch_store.specs.Store.{first_rows}
 use Rattle.branch_store.specs.Tables.{Table}
 use Rattle.branch_store.proofs.Keyed.{Keyed}
 use Rattle.branch_store.proofs.Keys.{rows_have_keys}

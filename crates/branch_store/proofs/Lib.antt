@@ -1,12 +1,15 @@
+pub mod Aggregated
 pub mod Alone
 pub mod Firsts
 pub mod Fitting
 pub mod Found
 pub mod Keyed
 pub mod Keys
+pub mod Naming
 pub mod Refused
 pub mod Scanning
 pub mod Sounds
+pub mod Suited
 pub mod Turns
 pub mod Undoing
 pub mod Viewing

@@ -1,21 +1,27 @@
 -- What is refused changes nothing.
 use Rattle.std.proofs.Common.{◌≡◌, ℕ, List, Option, Some, None, Result, Ok, Err, refl}
+use Rattle.sql_values.specs.declared.table.TableDef.{TableDef}
 use Rattle.sql_text.specs.declared.link.LinkAnswer.{LinkAnswer}
-use Rattle.sql_text.specs.declared.link.LinkAnswer.TheVariants.{Done, Rows, Xids, Refused}
+use Rattle.sql_text.specs.declared.link.LinkAnswer.TheVariants.{Done, Xids, Refused}
 use Rattle.sql_text.specs.declared.link.LinkRequest.TheVariants.{Start, End, Prepare, Commit, Rollback, Recover, Scan, Put, Del, Clear}
+use Rattle.sql_text.specs.declared.link.ScanItems.{ScanItems}
+use Rattle.sql_text.specs.declared.link.ScanItems.TheVariants as items
+use Rattle.plain_tables.specs.Rows.{Row}
+use Rattle.plain_tables.specs.Scans.{answer_of}
 use Rattle.branch_store.specs.declared.branch.Change.{Change}
 use Rattle.branch_store.specs.declared.fault.BranchFault.{BranchFault}
 use Rattle.branch_store.specs.Faults.{start_fault, branch_fault, may_end, may_prepare, may_commit, may_roll_back, rows_fault, key_fault, scan_fault}
 use Rattle.branch_store.specs.Laws.{RefusalsChangeNothing}
-use Rattle.branch_store.specs.Store.{Store, unless_fault, working, work_on, living, own}
+use Rattle.branch_store.specs.Store.{Store, found, unless_fault, working, work_on, living, own}
 use Rattle.branch_store.specs.Tables.{Table}
 
 module _ (number : ℕ) (message : List ℕ) where
   done_not : (count : ℕ) → Done count ≡ Refused number message → ⊥
   done_not count is = cc
 
-  rows_not : (rows : _) → Rows rows ≡ Refused number message → ⊥
-  rows_not rows is = cc
+  found_not : (def : TableDef) (asked : ScanItems) (limit : Option ℕ) (rows : List Row) → answer_of def asked limit rows ≡ Refused number message → ⊥
+  found_not def items.All limit rows is = cc
+  found_not def (items.Aggregates calls) limit rows is = cc
 
   xids_not : (xids : _) → Xids xids ≡ Refused number message → ⊥
   xids_not xids is = cc
@@ -37,7 +43,7 @@ refusals_change_nothing store conn (Commit xid) n m is = unless n m store (branc
 refusals_change_nothing store conn (Rollback xid) n m is = unless n m store (branch_fault (may_roll_back conn) (living store xid)) _ (done_not n m 0) is
 refusals_change_nothing store conn Recover n m is = refl
 refusals_change_nothing store conn (Scan scan) n m is =
-    at_work n m store (work_on store conn scan.table) _ (λ changes table. unless n m store (scan_fault table.def scan) _ (rows_not n m _)) is
+    at_work n m store (work_on store conn scan.table) _ (λ changes table. unless n m store (scan_fault table.def scan) (store, found changes table scan) (found_not n m table.def scan.items scan.limit _)) is
 refusals_change_nothing store conn (Put name rows) n m is =
     at_work n m store (work_on store conn name) _ (λ changes table. unless n m store (rows_fault table.def rows) _ (done_not n m _)) is
 refusals_change_nothing store conn (Del name key keys) n m is =

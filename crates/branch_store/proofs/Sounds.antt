@@ -1,19 +1,28 @@
 -- Each row stays one of its table.
-use Rattle.std.proofs.Common.{◌≡◌, ℕ, nat_eq, Bool, true, false, not, ◌&&◌, ◌||◌, List, [], ◌∷◌, ◌++◌, map, take, zero, suc, Option, Some, None, Result, Ok, Err, refl, sym, ◌∙◌, ap, subst, inl, inr, cond, length}
+use Rattle.std.proofs.Common.{◌≡◌, ℕ, ◌==◌, nat_eq, arith, Bool, true, false, not, ◌&&◌, ◌||◌, List, [], ◌∷◌, ◌++◌, map, take, zero, suc, Option, Some, None, Result, Ok, Err, refl, sym, ◌∙◌, ap, subst, inl, inr, cond, length}
 use Rattle.std.specs.Prelude.{IfSome}
 use Rattle.std.specs.List.{AllByRecursion, Contains, filter, find, list_all, list_any}
 use Rattle.std.specs.Cmp.Lexicographic.{pointwise, nat_list_eq_equiv}
 use Rattle.std.specs.List.Sorted.{IsStrictlySortedBy}
-use Rattle.std.proofs.lemmas.Bool.{false≢true}
+use Rattle.std.proofs.lemmas.Bool.{and_from, false≢true}
+use Rattle.std.proofs.lemmas.Bool.Decides.{nat_tests}
+use Rattle.std.proofs.lemmas.List.{length-map}
 use Rattle.std.proofs.lemmas.List.Elements.{Contains-append_cases}
 use Rattle.std.proofs.lemmas.List.Kept.{IsStrictlySortedBy-filter}
 use Rattle.sql_values.specs.declared.table.TableDef.{TableDef}
+use Rattle.sql_values.specs.declared.tree.Cond.{Cond}
 use Rattle.sql_text.specs.declared.link.LinkAnswer.{LinkAnswer}
-use Rattle.sql_text.specs.declared.link.LinkAnswer.TheVariants.{Done, Rows}
+use Rattle.sql_text.specs.declared.link.LinkAnswer.TheVariants.{Cells, Done}
 use Rattle.sql_text.specs.declared.link.LinkRequest.TheVariants as request
 use Rattle.sql_text.specs.declared.link.Scan.{Scan}
+use Rattle.sql_text.specs.declared.link.ScanItems.{ScanItems}
+use Rattle.sql_text.specs.declared.link.ScanItems.TheVariants as items
+use Rattle.front_rows.specs.Aggregates.{cells_over}
+use Rattle.front_rows.specs.Cells.{Cell}
+use Rattle.stmt_plan.specs.Selects.{aggregate_of}
 use Rattle.plain_tables.specs.Inserts.{put, put_all}
 use Rattle.plain_tables.specs.Rows.{Row, by_key, holds_on, kept, FitsColumns, fits_columns}
+use Rattle.plain_tables.specs.Scans.{answer_of, first_rows}
 use Rattle.plain_tables.proofs.Inserted.{put_rises, in_put}
 use Rattle.plain_tables.proofs.Members.{all_of, all_by, kept_passes}
 use Rattle.branch_store.specs.declared.branch.Branch.{Branch}
@@ -22,15 +31,15 @@ use Rattle.branch_store.specs.declared.branch.Change.TheVariants.{Put, Del, Clea
 use Rattle.branch_store.specs.declared.branch.Stage.{Stage}
 use Rattle.branch_store.specs.declared.branch.Stage.TheVariants.{Active, Ended, Prepared}
 use Rattle.branch_store.specs.declared.fault.BranchFault.{BranchFault}
-use Rattle.branch_store.specs.declared.fault.BranchFault.TheVariants.{NoSuchBranch, WrongState, Duplicate, NoTable, NoColumn, TypeMismatch, NotSupported}
+use Rattle.branch_store.specs.declared.fault.BranchFault.TheVariants.{NoSuchBranch, WrongState, Duplicate, NoTable, NoColumn, TypeMismatch}
 use Rattle.branch_store.specs.Changes.{after, changed, has_key_in, has_key_from, is_called, without}
 use Rattle.branch_store.specs.Answers.{refusal}
 use Rattle.branch_store.specs.Faults.{has_xid, is_own, start_fault, branch_fault, rows_fault, key_fault, scan_fault, may_end, may_prepare, may_commit, may_roll_back}
 use Rattle.branch_store.specs.Lists.{changed_first, without_first}
 use Rattle.branch_store.specs.Opening.{are_apart, are_tables, is_definition, empty_table, empty_tables}
 use Rattle.branch_store.specs.Scanning.{AreOfTable}
-use Rattle.branch_store.specs.Sound.{AreRows, FitsTable, FitsTables, definition, IsSound, StepsKeepRows, HangupsKeepRows, AnswersHaveForm, are_rows_of, rows_form, done_form}
-use Rattle.branch_store.specs.Store.{Store, own, living, working, work_on, with_table, and_table, own_changes, active_changes, table_called, unless_fault, with_branches, with_change, add_change, at_stage, changed_table, changes_of, seen, found, first_rows, new_branch}
+use Rattle.branch_store.specs.Sound.{AreRows, FitsTable, FitsTables, definition, IsSound, StepsKeepRows, HangupsKeepRows, AnswersHaveForm, are_rows_of, cells_form, rows_form, scan_form, done_form}
+use Rattle.branch_store.specs.Store.{Store, own, living, working, work_on, with_table, and_table, own_changes, active_changes, table_called, unless_fault, with_branches, with_change, add_change, at_stage, changed_table, changes_of, seen, found, found_rows, new_branch}
 use Rattle.branch_store.specs.Tables.{Table}
 
 -- LISTS
@@ -254,7 +263,7 @@ steps_keep_rows store conn (request.Rollback xid) sound =
 steps_keep_rows store conn request.Recover sound = sound
 steps_keep_rows store conn (request.Scan scan) sound =
     work_by store scan.table (table_called store scan.table) (own store conn) _ (λ done. IsSound done.0) (FitBranch (map definition store.tables)) (own_fits store conn sound) (λ fault. sound)
-    (λ b t fit there. unless_sound store (scan_fault t.def scan) (store, Rows (found b.changes t scan)) sound sound)
+    (λ b t fit there. unless_sound store (scan_fault t.def scan) (store, found b.changes t scan) sound sound)
 steps_keep_rows store conn (request.Put name rows) sound =
     work_by store name (table_called store name) (own store conn) _ (λ done. IsSound done.0) (FitBranch (map definition store.tables)) (own_fits store conn sound) (λ fault. sound)
     (λ b t fit there. put_sound store conn name rows t (list_all (fits_columns t.def) rows) refl there sound)
@@ -277,7 +286,6 @@ refusals_done Duplicate = refl
 refusals_done (NoTable name) = refl
 refusals_done (NoColumn name) = refl
 refusals_done TypeMismatch = refl
-refusals_done NotSupported = refl
 
 refusals_rows : (table : Option Table) (fault : BranchFault) → rows_form (refusal fault) table ≡ true
 refusals_rows table NoSuchBranch = refl
@@ -286,15 +294,26 @@ refusals_rows table Duplicate = refl
 refusals_rows table (NoTable name) = refl
 refusals_rows table (NoColumn name) = refl
 refusals_rows table TypeMismatch = refl
-refusals_rows table NotSupported = refl
+
+refusals_cells : (count : ℕ) (fault : BranchFault) → cells_form count (refusal fault) ≡ true
+refusals_cells count NoSuchBranch = refl
+refusals_cells count (WrongState stage) = refl
+refusals_cells count Duplicate = refl
+refusals_cells count (NoTable name) = refl
+refusals_cells count (NoColumn name) = refl
+refusals_cells count TypeMismatch = refl
+
+refusals_scan : (asked : ScanItems) (table : Option Table) (fault : BranchFault) → scan_form asked (refusal fault) table ≡ true
+refusals_scan items.All table fault = refusals_rows table fault
+refusals_scan (items.Aggregates calls) table fault = refusals_cells (length calls) fault
 
 unless_done : (store : Store) (fault : Option BranchFault) (done : Store × LinkAnswer) → done_form done.1 ≡ true → done_form (unless_fault store fault done).1 ≡ true
 unless_done store (Some fault) done form = refusals_done fault
 unless_done store None done form = form
 
-unless_rows : (store : Store) (table : Option Table) (fault : Option BranchFault) (done : Store × LinkAnswer) → rows_form done.1 table ≡ true → rows_form (unless_fault store fault done).1 table ≡ true
-unless_rows store table (Some fault) done form = refusals_rows table fault
-unless_rows store table None done form = form
+unless_scan : (store : Store) (asked : ScanItems) (table : Option Table) (fault : Option BranchFault) (done : Store × LinkAnswer) → scan_form asked done.1 table ≡ true → scan_form asked (unless_fault store fault done).1 table ≡ true
+unless_scan store asked table (Some fault) done form = refusals_scan asked table fault
+unless_scan store asked table None done form = form
 
 all_unmapped : {X Y : Type 0} (Q : Y → Type 0) (f : X → Y) (xs : List X) → AllByRecursion Q (map f xs) → AllByRecursion (λ x. Q (f x)) xs
 all_unmapped Q f [] all = tt
@@ -305,9 +324,9 @@ first_fit def None rows all = all
 first_fit def (Some most) rows all = all_take (FitsColumns def) most rows all
 
 -- what a scan finds are rows of its table
-found_fits : (store : Store) (scan : Scan) (changes : List Change) (table : Table) → IsSound store → AllByRecursion (FitsTables (map definition store.tables)) changes → table_called store scan.table ≡ Some table
-    → are_rows_of (table_called store scan.table) (found changes table scan) ≡ true
-found_fits store scan changes table sound fit there =
+found_fits : (store : Store) (scan : Scan) (cond : Option Cond) (limit : Option ℕ) (changes : List Change) (table : Table) → IsSound store → AllByRecursion (FitsTables (map definition store.tables)) changes → table_called store scan.table ≡ Some table
+    → are_rows_of (table_called store scan.table) (found_rows changes table cond limit) ≡ true
+found_fits store scan cond limit changes table sound fit there =
     let defs : List TableDef = map definition store.tables in
     let called : Table → Bool = λ t. is_called scan.table t.def in
     let have : Table → Type 0 = λ t. AreRows t.def t.rows in
@@ -315,9 +334,28 @@ found_fits store scan changes table sound fit there =
     let rows : AreRows table.def table.rows = subst (λ o. IfSome o have) there (all_found have called store.tables sound.rows) in
     let each : AllByRecursion take_changes store.tables = all_unmapped (λ def. AllByRecursion (λ change. FitsTable change def) changes) definition store.tables (all_by (λ def. AllByRecursion (λ change. FitsTable change def) changes) defs (λ def at. fit_one defs def at changes fit)) in
     let its : take_changes table = subst (λ o. IfSome o take_changes) there (all_found take_changes called store.tables each) in
-    let all : AllByRecursion (FitsColumns table.def) (found changes table scan) =
-    first_fit table.def scan.limit (kept table.def scan.cond (seen changes table)) (all_filter (FitsColumns table.def) (holds_on table.def scan.cond) (seen changes table) (after_fits table.def changes table.rows rows its).fit) in
-    ap (λ t. are_rows_of t (found changes table scan)) there ∙ all_rows (fits_columns table.def) (found changes table scan) all
+    let all : AllByRecursion (FitsColumns table.def) (found_rows changes table cond limit) =
+    first_fit table.def limit (kept table.def cond (seen changes table)) (all_filter (FitsColumns table.def) (holds_on table.def cond) (seen changes table) (after_fits table.def changes table.rows rows its).fit) in
+    ap (λ t. are_rows_of t (found_rows changes table cond limit)) there ∙ all_rows (fits_columns table.def) (found_rows changes table cond limit) all
+
+same_count : (m n : ℕ) → m ≡ n → (m == n) ≡ true
+same_count m n same = grind (arith, nat_tests)
+
+-- the row of cells, or none where no row is wanted
+one_row : (limit : Option ℕ) (cells : List Cell) (count : ℕ) → length cells ≡ count → cells_form count (Cells (first_rows limit (cells ∷ []))) ≡ true
+one_row None cells count is = and_from _ _ (same_count (length cells) count is) refl
+one_row (Some zero) cells count is = refl
+one_row (Some (suc zero)) cells count is = and_from _ _ (same_count (length cells) count is) refl
+one_row (Some (suc (suc most))) cells count is = and_from _ _ (same_count (length cells) count is) refl
+
+-- what a scan finds has the form of what it asks for
+found_has_form : (store : Store) (scan : Scan) (asked : ScanItems) (changes : List Change) (table : Table) → IsSound store → AllByRecursion (FitsTables (map definition store.tables)) changes → table_called store scan.table ≡ Some table
+    → scan_form asked (answer_of table.def asked scan.limit (kept table.def scan.cond (seen changes table))) (table_called store scan.table) ≡ true
+found_has_form store scan items.All changes table sound fit there = found_fits store scan scan.cond scan.limit changes table sound fit there
+found_has_form store scan (items.Aggregates calls) changes table sound fit there =
+    let rows : List Row = kept table.def scan.cond (seen changes table) in
+    one_row scan.limit (cells_over (map (aggregate_of table.def) calls) rows) (length calls)
+    (simp length-map)
 
 pub answers_have_form : AnswersHaveForm
 answers_have_form store conn (request.Start xid) sound = unless_done store (start_fault (living store xid) (own store conn)) _ refl
@@ -327,9 +365,9 @@ answers_have_form store conn (request.Commit xid) sound = unless_done store (bra
 answers_have_form store conn (request.Rollback xid) sound = unless_done store (branch_fault (may_roll_back conn) (living store xid)) _ refl
 answers_have_form store conn request.Recover sound = refl
 answers_have_form store conn (request.Scan scan) sound =
-    work_by store scan.table (table_called store scan.table) (own store conn) _ (λ done. rows_form done.1 (table_called store scan.table) ≡ true) (FitBranch (map definition store.tables)) (own_fits store conn sound)
-    (refusals_rows (table_called store scan.table))
-    (λ b t fit there. unless_rows store (table_called store scan.table) (scan_fault t.def scan) (store, Rows (found b.changes t scan)) (found_fits store scan b.changes t sound fit there))
+    work_by store scan.table (table_called store scan.table) (own store conn) _ (λ done. scan_form scan.items done.1 (table_called store scan.table) ≡ true) (FitBranch (map definition store.tables)) (own_fits store conn sound)
+    (refusals_scan scan.items (table_called store scan.table))
+    (λ b t fit there. unless_scan store scan.items (table_called store scan.table) (scan_fault t.def scan) (store, found b.changes t scan) (found_has_form store scan scan.items b.changes t sound fit there))
 answers_have_form store conn (request.Put name rows) sound =
     work_by store name (table_called store name) (own store conn) _ (λ done. done_form done.1 ≡ true) (FitBranch (map definition store.tables)) (own_fits store conn sound) refusals_done
     (λ b t fit there. unless_done store (rows_fault t.def rows) _ refl)

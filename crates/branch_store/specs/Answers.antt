@@ -5,7 +5,7 @@ use Rattle.sql_text.specs.declared.link.LinkAnswer.TheVariants.{Refused}
 use Rattle.branch_store.specs.declared.branch.Stage.{Stage}
 use Rattle.branch_store.specs.declared.branch.Stage.TheVariants.{Active, Ended, Prepared}
 use Rattle.branch_store.specs.declared.fault.BranchFault.{BranchFault}
-use Rattle.branch_store.specs.declared.fault.BranchFault.TheVariants.{NoSuchBranch, WrongState, Duplicate, NoTable, NoColumn, TypeMismatch, NotSupported}
+use Rattle.branch_store.specs.declared.fault.BranchFault.TheVariants.{NoSuchBranch, WrongState, Duplicate, NoTable, NoColumn, TypeMismatch}
 
 -- a branch's stage in the words of X/Open XA
 abbrev pub stage_word : Stage → List ℕ
@@ -20,4 +20,3 @@ refusal Duplicate = Refused 1440 (codes "The XID already exists")
 refusal (NoTable name) = Refused 1146 (codes "Table '" ++ name ++ codes "' doesn't exist")
 refusal (NoColumn name) = Refused 1054 (codes "Unknown column '" ++ name ++ codes "'")
 refusal TypeMismatch = Refused 14020 (codes "Type mismatch")
-refusal NotSupported = Refused 1235 (codes "This version doesn't yet support 'aggregates'")

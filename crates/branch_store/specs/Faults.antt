@@ -8,17 +8,21 @@ use Rattle.sql_values.specs.declared.checks.CheckFault.TheVariants as check
 use Rattle.sql_values.specs.declared.places.Xid.{Xid}
 use Rattle.sql_values.specs.declared.table.TableDef.{TableDef}
 use Rattle.sql_values.specs.declared.tree.Cond.{Cond}
-use Rattle.sql_values.specs.Checks.{checked_cond}
+use Rattle.sql_values.specs.declared.tree.ColumnName.{ColumnName}
+use Rattle.sql_values.specs.Checks.{checked_cond, is_unknown}
+use Rattle.sql_text.specs.declared.link.AggregateCall.{AggregateCall}
+use Rattle.sql_text.specs.declared.link.AggregateCall.TheVariants as call
 use Rattle.sql_text.specs.declared.link.Scan.{Scan}
 use Rattle.sql_text.specs.declared.link.ScanItems.{ScanItems}
 use Rattle.sql_text.specs.declared.link.ScanItems.TheVariants as scanned
 use Rattle.stmt_plan.specs.Inserts.{key_name}
+use Rattle.stmt_plan.specs.Selects.{call_fits}
 use Rattle.plain_tables.specs.Rows.{Row, fits_columns}
 use Rattle.branch_store.specs.declared.branch.Branch.{Branch}
 use Rattle.branch_store.specs.declared.branch.Stage.{Stage}
 use Rattle.branch_store.specs.declared.branch.Stage.TheVariants.{Active, Ended, Prepared}
 use Rattle.branch_store.specs.declared.fault.BranchFault.{BranchFault}
-use Rattle.branch_store.specs.declared.fault.BranchFault.TheVariants.{NoSuchBranch, WrongState, Duplicate, NoColumn, TypeMismatch, NotSupported}
+use Rattle.branch_store.specs.declared.fault.BranchFault.TheVariants.{NoSuchBranch, WrongState, Duplicate, NoColumn, TypeMismatch}
 
 -- BRANCHES
 
@@ -92,11 +96,31 @@ abbrev pub cond_fault : TableDef → Option Cond → Option BranchFault
 cond_fault def None = None
 cond_fault def (Some cond) = fault_of_check (checked_cond cond (def ∷ []))
 
--- aggregates aren't answered yet
-abbrev pub items_fault : ScanItems → Option BranchFault
-items_fault scanned.All = None
-items_fault (scanned.Aggregates calls) = Some NotSupported
+-- AGGREGATES
+
+-- the name has to be that of a column
+abbrev pub column_fault : TableDef → ColumnName → Option BranchFault
+column_fault def name = if is_unknown (def ∷ []) name then Some (NoColumn name.column) else None
+
+-- a sum is one of numbers
+abbrev pub sum_fault : TableDef → AggregateCall → Option BranchFault
+sum_fault def c = if call_fits def c then None else Some TypeMismatch
+
+abbrev pub call_fault : TableDef → AggregateCall → Option BranchFault
+call_fault def call.Count = None
+call_fault def (call.Sum name) = option_or (column_fault def name) (sum_fault def (call.Sum name))
+call_fault def (call.Min name) = column_fault def name
+call_fault def (call.Max name) = column_fault def name
+
+-- the first call that doesn't fit
+abbrev pub calls_fault : TableDef → List AggregateCall → Option BranchFault
+calls_fault def [] = None
+calls_fault def (c ∷ calls) = option_or (call_fault def c) (calls_fault def calls)
+
+abbrev pub items_fault : TableDef → ScanItems → Option BranchFault
+items_fault def scanned.All = None
+items_fault def (scanned.Aggregates calls) = calls_fault def calls
 
 -- what is asked for comes first, then the key column's name
 abbrev pub scan_fault : TableDef → Scan → Option BranchFault
-scan_fault def scan = option_or (items_fault scan.items) (option_or (key_fault def scan.order) (cond_fault def scan.cond))
+scan_fault def scan = option_or (items_fault def scan.items) (option_or (key_fault def scan.order) (cond_fault def scan.cond))

@@ -1,5 +1,6 @@
 pub mod Answers
 pub mod Changes
+pub mod Counting
 pub mod Deeds
 pub mod Faults
 pub mod Keyed

@@ -1,9 +1,11 @@
 -- Stores in which each row is one of its table.
-use Rattle.std.specs.Prelude.{◌≡◌, ℕ, Bool, true, false, List, map, Option, Some, None}
+use Rattle.std.specs.Prelude.{◌≡◌, ◌==◌, ℕ, Bool, true, false, ◌&&◌, List, map, length, nat_le, Option, Some, None}
 use Rattle.std.specs.List.{AllByRecursion, list_all}
 use Rattle.sql_values.specs.declared.table.TableDef.{TableDef}
 use Rattle.sql_text.specs.declared.link.LinkAnswer.{LinkAnswer}
 use Rattle.sql_text.specs.declared.link.LinkAnswer.TheVariants as answer
+use Rattle.sql_text.specs.declared.link.ScanItems.{ScanItems}
+use Rattle.sql_text.specs.declared.link.ScanItems.TheVariants as items
 use Rattle.sql_text.specs.declared.link.LinkRequest.{LinkRequest}
 use Rattle.sql_text.specs.declared.link.LinkRequest.TheVariants as request
 use Rattle.plain_tables.specs.Rows.{Row, FitsColumns, HasKey, Rises, fits_columns}
@@ -54,11 +56,21 @@ abbrev pub are_rows_of : Option Table → List Row → Bool
 are_rows_of None rows = false
 are_rows_of (Some table) rows = list_all (fits_columns table.def) rows
 
--- a scan is answered by rows of its table, RECOVER by names of branches, and each other request by a number
+-- a scan is answered by rows of its table or by a row of cells, RECOVER by names of branches, and each other request by a number
 abbrev pub rows_form : LinkAnswer → Option Table → Bool
 rows_form (answer.Rows rows) table = are_rows_of table rows
 rows_form (answer.Refused number message) table = true
 rows_form _ table = false
+
+-- one row at most, with a cell for each of so many aggregates
+abbrev pub cells_form : ℕ → LinkAnswer → Bool
+cells_form count (answer.Cells rows) = nat_le (length rows) 1 && list_all (λ (row : List (Option (List ℕ))). length row == count) rows
+cells_form count (answer.Refused number message) = true
+cells_form count _ = false
+
+abbrev pub scan_form : ScanItems → LinkAnswer → Option Table → Bool
+scan_form items.All a table = rows_form a table
+scan_form (items.Aggregates calls) a table = cells_form (length calls) a
 
 abbrev pub xids_form : LinkAnswer → Bool
 xids_form (answer.Xids xids) = true
@@ -72,7 +84,7 @@ done_form _ = false
 
 -- the answer has the form of its request's
 abbrev pub has_form : Store → LinkRequest → LinkAnswer → Bool
-has_form store (request.Scan scan) answer = rows_form answer (table_called store scan.table)
+has_form store (request.Scan scan) answer = scan_form scan.items answer (table_called store scan.table)
 has_form store request.Recover answer = xids_form answer
 has_form store (request.Start xid) answer = done_form answer
 has_form store (request.End xid) answer = done_form answer

@@ -1,6 +1,6 @@
 -- A backend: its tables, the branches of transactions that live there, and what each request does (X/Open XA, "Distributed Transaction Processing: The XA
 -- Specification").
-use Rattle.std.specs.Prelude.{ℕ, Bool, List, [], ◌∷◌, ◌++◌, ◌&&◌, Option, Some, None, Result, Ok, Err, map, length, take, if◌then◌else◌}
+use Rattle.std.specs.Prelude.{ℕ, Bool, List, [], ◌∷◌, ◌++◌, ◌&&◌, Option, Some, None, Result, Ok, Err, map, length, if◌then◌else◌}
 use Rattle.std.specs.List.{filter, find, fold}
 use Rattle.std.specs.Map.{keys_of}
 use Rattle.std.specs.Cmp.Lexicographic.{slice_cmp}
@@ -9,11 +9,13 @@ use Rattle.std.specs.Ordering.{nat_cmp, ordering_then}
 use Rattle.std.specs.declared.cmp.Ordering.{Ordering}
 use Rattle.sql_values.specs.declared.places.Xid.{Xid}
 use Rattle.sql_text.specs.declared.link.LinkAnswer.{LinkAnswer}
-use Rattle.sql_text.specs.declared.link.LinkAnswer.TheVariants.{Done, Rows, Xids}
+use Rattle.sql_text.specs.declared.link.LinkAnswer.TheVariants.{Done, Xids}
 use Rattle.sql_text.specs.declared.link.LinkRequest.{LinkRequest}
 use Rattle.sql_text.specs.declared.link.LinkRequest.TheVariants as request
 use Rattle.sql_text.specs.declared.link.Scan.{Scan}
+use Rattle.sql_values.specs.declared.tree.Cond.{Cond}
 use Rattle.plain_tables.specs.Rows.{Row, kept}
+use Rattle.plain_tables.specs.Scans.{answered, first_rows}
 use Rattle.branch_store.specs.declared.branch.Branch.{Branch}
 use Rattle.branch_store.specs.declared.branch.Change.{Change}
 use Rattle.branch_store.specs.declared.branch.Change.TheVariants.{Put, Del, Clear}
@@ -119,16 +121,16 @@ working store (Ok (changes, table)) act = act changes table
 abbrev pub seen : List Change → Table → List Row
 seen changes table = after table.def changes table.rows
 
--- the first rows, at most so many where there is a limit
-abbrev pub first_rows : Option ℕ → List Row → List Row
-first_rows None rows = rows
-first_rows (Some most) rows = take most rows
+-- the first rows of those that a branch sees on which the condition holds, at most so many where there is a limit
+abbrev pub found_rows : List Change → Table → Option Cond → Option ℕ → List Row
+found_rows changes table cond limit = first_rows limit (kept table.def cond (seen changes table))
 
-abbrev pub found : List Change → Table → Scan → List Row
-found changes table scan = first_rows scan.limit (kept table.def scan.cond (seen changes table))
+-- what a scan of the rows that a branch sees is answered
+abbrev pub found : List Change → Table → Scan → LinkAnswer
+found changes table scan = answered table.def scan.items scan.cond scan.limit (seen changes table)
 
 abbrev pub scanned : Store → ℕ → Scan → Store × LinkAnswer
-scanned store conn scan = working store (work_on store conn scan.table) (λ changes table. unless_fault store (scan_fault table.def scan) (store, Rows (found changes table scan)))
+scanned store conn scan = working store (work_on store conn scan.table) (λ changes table. unless_fault store (scan_fault table.def scan) (store, found changes table scan))
 
 abbrev pub add_change : Change → Branch → Branch
 add_change change branch = record branch { changes = branch.changes ++ change ∷ [] }

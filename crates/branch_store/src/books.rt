@@ -7,7 +7,7 @@ ghost use Rattle.branch_store.specs.Changes.{has_key_in, has_key_from, is_called
 ghost use Rattle.branch_store.specs.Deeds.{may_do};
 ghost use Rattle.branch_store.specs.Opening.{empty_tables};
 ghost use Rattle.branch_store.specs.Sound.{IsSound};
-ghost use Rattle.branch_store.specs.Store.{Store, store_step, started as start_step, moved, committed, rolled_back, hung_up, scanned, put as put_step, deleted, work_on, found, changed_table, prepared_changes, viewed, viewed_rows};
+ghost use Rattle.branch_store.specs.Store.{Store, store_step, started as start_step, moved, committed, rolled_back, hung_up, scanned, put as put_step, deleted, work_on, changed_table, prepared_changes, viewed, viewed_rows};
 
 use crate::branches::{
     Deed, add_change, deed_fault, living, own, prepared, remove, remove_own, set_stage, start_fault,
@@ -243,8 +243,7 @@ impl Books {
         if let Some(fault) = scan_fault(alloc, work.table, scan)? {
             return refusal(alloc, &fault);
         }
-        let rows = work.table.found(alloc, work.changes.as_slice(), scan)?;
-        Ok(LinkAnswer::Rows(rows))
+        work.table.answer(alloc, work.changes.as_slice(), scan)
     }
 
     /// Adds rows to what the connection's branch puts.

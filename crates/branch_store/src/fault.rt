@@ -22,10 +22,8 @@ pub enum BranchFault {
     NoTable(Name),
     /// The table has no such column, or the column isn't its key.
     NoColumn(Name),
-    /// Values of different types meet, or a row isn't one of the table.
+    /// Values of different types meet, a sum is asked of texts, or a row isn't one of the table.
     TypeMismatch,
-    /// A scan asks for aggregates, which aren't answered yet.
-    NotSupported,
 }
 
 fn stage_word(stage: Stage) -> &'static str
@@ -86,8 +84,5 @@ pub(crate) fn refusal(alloc: Global, fault: &BranchFault) -> Result<LinkAnswer, 
         BranchFault::NoTable(table) => no_table(alloc, table),
         BranchFault::NoColumn(column) => no_column(alloc, column),
         BranchFault::TypeMismatch => refused(alloc, 14020, "Type mismatch"),
-        BranchFault::NotSupported => {
-            refused(alloc, 1235, "This version doesn't yet support 'aggregates'")
-        }
     }
 }

@@ -5,14 +5,14 @@
 //! roll it back (X/Open XA). A branch's changes are kept beside the tables until then: a scan sees the committed rows after its own branch's changes, in the
 //! order in which they were asked for (`specs/Changes`), and a commit leaves these rows to all.
 //!
-//! There are no locks and no log yet: branches may change the same rows, and what is committed later is on top. Aggregates aren't answered
-//! yet: a scan that asks for them is refused (1235).
+//! There are no locks and no log yet: branches may change the same rows, and what is committed later is on top.
 #![tactic(auto)]
 
 mod books;
 mod branch;
 mod branches;
 mod checking;
+mod counting;
 mod fault;
 pub mod laws;
 mod opening;

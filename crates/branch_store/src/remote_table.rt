@@ -7,8 +7,9 @@ ghost use Rattle.std.specs.Option.{unwrap_or};
 ghost use Rattle.std.specs.Ordering.{int_cmp};
 ghost use Rattle.plain_tables.specs.Inserts.{put as put_row, put_all as put_all_rows};
 ghost use Rattle.plain_tables.specs.Rows.{holds_on, kept, key_of};
+ghost use Rattle.plain_tables.specs.Scans.{first_rows};
 ghost use Rattle.branch_store.specs.Changes.{after, changed, has_key_in, has_key_from, is_called, is_of, without};
-ghost use Rattle.branch_store.specs.Store.{changed_table, count_seen, first_rows, found as found_by};
+ghost use Rattle.branch_store.specs.Store.{changed_table, count_seen, found_rows};
 ghost use Rattle.branch_store.specs.Tables.{Table};
 
 mod scanning;
@@ -35,7 +36,7 @@ impl Model for RemoteTable {
     ghost use Rattle.std.specs.Prelude.{◌≡◌, [], ◌∷◌};
     ghost use Rattle.std.specs.Map.{values_of};
     ghost use Rattle.branch_store.specs.Keyed.{AreKeyed};
-    ghost use Rattle.branch_store.specs.Store.{changed_table, count_seen, first_rows, found as found_by};
+    ghost use Rattle.branch_store.specs.Store.{changed_table, count_seen, found_rows};
     ghost use Rattle.branch_store.specs.Tables.{Table};
 
     ghost Value = { Table };
@@ -317,20 +318,21 @@ impl RemoteTable {
         }
     }
 
-    /// What a scan finds after these changes, by a walk over the rows.
+    /// The first rows after these changes on which a condition holds, by a walk over the rows.
     #[tactic(auto, using(crate::proofs::Turns::not_changed))]
     fn found_by_walk(
         &self,
         alloc: Global,
         changes: &[Change],
-        scan: &Scan,
+        cond: &Option<Cond>,
+        limit: Option<u64>,
     ) -> Result<Rows, AllocError>
-        ensures { IfOk result (λ rows. rows ≡ found_by changes.now self.now scan.now) }
+        ensures { IfOk result (λ rows. rows ≡ found_rows changes.now self.now cond.now limit) }
     {
         if self.is_changed(changes) {
-            self.after(changes)?.limited(alloc, &scan.cond, scan.limit)
+            self.after(changes)?.limited(alloc, cond, limit)
         } else {
-            self.limited(alloc, &scan.cond, scan.limit)
+            self.limited(alloc, cond, limit)
         }
     }
 

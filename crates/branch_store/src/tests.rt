@@ -2,7 +2,7 @@
 
 use crate::*;
 use list_types::{Listed, Text};
-use sql_text::{AggregateCall, LinkAnswer, LinkRequest, Scan, ScanItems};
+use sql_text::{AggregateCall, Cell, LinkAnswer, LinkRequest, Scan, ScanItems};
 use sql_values::{
     ColumnDef, ColumnName, Comparison, Cond, Kind, Literal, Literals, LockMode, Name, Operand, Row,
     Rows, TableDef, TableDefs, Value, Xid, Xids,
@@ -19,7 +19,8 @@ enum Ask {
     Rollback(&'static str),
     Recover,
     Scan(u64),
-    Count,
+    // an aggregate of a table, of which at most so many rows are wanted
+    Total(&'static str, Total, u64),
     // rows whose key is one of these, lies between these, is at least this, at most so many
     ScanIn(&'static [i64], u64),
     ScanBetween(i64, i64, u64),
@@ -30,6 +31,15 @@ enum Ask {
     Clear(i64, i64),
 }
 
+/// An aggregate.
+#[derive(Clone, Copy)]
+enum Total {
+    Count,
+    Sum(&'static str),
+    Min(&'static str),
+    Max(&'static str),
+}
+
 /// What it is to answer.
 #[derive(Clone, Copy)]
 enum Told {
@@ -37,6 +47,10 @@ enum Told {
     Refused(u16),
     Keys(&'static [i64]),
     Branches(&'static [u8]),
+    Cell(&'static str),
+    // one row of a NULL, and no row
+    Null,
+    NoCells,
 }
 
 fn name(rt: &HostRuntime, text: &str) -> Result<Name, Fail> {
@@ -46,29 +60,32 @@ fn name(rt: &HostRuntime, text: &str) -> Result<Name, Fail> {
     }
 }
 
-fn column(rt: &HostRuntime, text: &str) -> Result<ColumnDef, Fail> {
-    Ok(ColumnDef {
-        name: name(rt, text)?,
-        kind: Kind::BigInt,
-    })
+fn column(rt: &HostRuntime, text: &str, kind: Kind) -> Result<ColumnDef, Fail> {
+    let name = name(rt, text)?;
+    Ok(ColumnDef { name, kind })
 }
 
-fn columns(rt: &HostRuntime) -> Result<Listed<ColumnDef>, Fail> {
+fn columns(rt: &HostRuntime, second: &str, kind: Kind) -> Result<Listed<ColumnDef>, Fail> {
     let mut columns = Listed::new(rt.alloc());
-    columns.push(column(rt, "k")?)?;
-    columns.push(column(rt, "n")?)?;
+    columns.push(column(rt, "k", Kind::BigInt)?)?;
+    columns.push(column(rt, second, kind)?)?;
     Ok(columns)
 }
 
-// t (k BIGINT, n BIGINT), by k
-fn tables(rt: &HostRuntime) -> Result<TableDefs, Fail> {
-    let def = TableDef {
-        name: name(rt, "t")?,
-        columns: columns(rt)?,
+fn table(rt: &HostRuntime, table: &str, second: &str, kind: Kind) -> Result<TableDef, Fail> {
+    let name = name(rt, table)?;
+    Ok(TableDef {
+        name,
+        columns: columns(rt, second, kind)?,
         key: 0,
-    };
+    })
+}
+
+// t (k BIGINT, n BIGINT) and u (k BIGINT, s VARCHAR(9)), by k
+fn tables(rt: &HostRuntime) -> Result<TableDefs, Fail> {
     let mut tables = Listed::new(rt.alloc());
-    tables.push(def)?;
+    tables.push(table(rt, "t", "n", Kind::BigInt)?)?;
+    tables.push(table(rt, "u", "s", Kind::VarChar(9))?)?;
     Ok(tables)
 }
 
@@ -101,26 +118,43 @@ fn scan(rt: &HostRuntime, most: u64) -> Result<Scan, Fail> {
     })
 }
 
-fn count(rt: &HostRuntime) -> Result<Scan, Fail> {
-    let mut calls = Listed::new(rt.alloc());
-    calls.push(AggregateCall::Count)?;
-    let table = name(rt, "t")?;
-    Ok(Scan {
-        table,
-        items: ScanItems::Aggregates(calls),
-        cond: None,
-        order: None,
-        limit: None,
-        lock: LockMode::Shared,
-    })
-}
-
-fn key_column(rt: &HostRuntime) -> Result<ColumnName, Fail> {
-    let column = name(rt, "k")?;
+fn column_name(rt: &HostRuntime, text: &str) -> Result<ColumnName, Fail> {
+    let column = name(rt, text)?;
     Ok(ColumnName {
         table: None,
         column,
     })
+}
+
+fn key_column(rt: &HostRuntime) -> Result<ColumnName, Fail> {
+    column_name(rt, "k")
+}
+
+fn call(rt: &HostRuntime, total: Total) -> Result<AggregateCall, Fail> {
+    match total {
+        Total::Count => Ok(AggregateCall::Count),
+        Total::Sum(column) => Ok(AggregateCall::Sum(column_name(rt, column)?)),
+        Total::Min(column) => Ok(AggregateCall::Min(column_name(rt, column)?)),
+        Total::Max(column) => Ok(AggregateCall::Max(column_name(rt, column)?)),
+    }
+}
+
+fn calls(rt: &HostRuntime, total: Total) -> Result<ScanItems, Fail> {
+    let mut calls = Listed::new(rt.alloc());
+    calls.push(call(rt, total)?)?;
+    Ok(ScanItems::Aggregates(calls))
+}
+
+fn total_of(rt: &HostRuntime, table: &str, total: Total, most: u64) -> Result<LinkRequest, Fail> {
+    let table = name(rt, table)?;
+    Ok(LinkRequest::Scan(Scan {
+        table,
+        items: calls(rt, total)?,
+        cond: None,
+        order: None,
+        limit: Some(most),
+        lock: LockMode::Shared,
+    }))
 }
 
 fn literals(rt: &HostRuntime, keys: &[i64]) -> Result<Literals, Fail> {
@@ -212,7 +246,7 @@ fn request(rt: &HostRuntime, ask: Ask) -> Result<LinkRequest, Fail> {
         Ask::Rollback(text) => Ok(LinkRequest::Rollback(xid(rt, text)?)),
         Ask::Recover => Ok(LinkRequest::Recover),
         Ask::Scan(most) => Ok(LinkRequest::Scan(scan(rt, most)?)),
-        Ask::Count => Ok(LinkRequest::Scan(count(rt)?)),
+        Ask::Total(table, call, most) => total_of(rt, table, call, most),
         Ask::ScanIn(keys, most) => scan_by(rt, is_in(rt, keys)?, most),
         Ask::ScanBetween(low, high, most) => scan_by(rt, is_between(rt, low, high)?, most),
         Ask::ScanFrom(low, most) => scan_by(rt, is_from(rt, low)?, most),
@@ -251,12 +285,38 @@ fn have_names(xids: &Xids, names: &[u8]) -> bool {
     left.is_empty()
 }
 
+fn has_text(cell: &Cell, text: &str) -> bool {
+    match cell {
+        Some(cell) => cell.as_str() == text,
+        None => false,
+    }
+}
+
+/// One row of one cell, with this text.
+fn is_cell(rows: &[Listed<Cell>], text: &str) -> bool {
+    match rows {
+        [row] => row.len() == 1 && row.as_slice().iter().all(|cell| has_text(cell, text)),
+        _ => false,
+    }
+}
+
+/// One row of one NULL.
+fn is_null(rows: &[Listed<Cell>]) -> bool {
+    match rows {
+        [row] => row.len() == 1 && row.as_slice().iter().all(|cell| cell.is_none()),
+        _ => false,
+    }
+}
+
 fn is_told(answer: &LinkAnswer, told: Told) -> bool {
     match (answer, told) {
         (LinkAnswer::Done(count), Told::Done(wanted)) => *count == wanted,
         (LinkAnswer::Refused { number, message: _ }, Told::Refused(wanted)) => *number == wanted,
         (LinkAnswer::Rows(rows), Told::Keys(keys)) => have_keys(rows, keys),
         (LinkAnswer::Xids(xids), Told::Branches(names)) => have_names(xids, names),
+        (LinkAnswer::Cells(rows), Told::Cell(text)) => is_cell(rows.as_slice(), text),
+        (LinkAnswer::Cells(rows), Told::Null) => is_null(rows.as_slice()),
+        (LinkAnswer::Cells(rows), Told::NoCells) => rows.is_empty(),
         _ => false,
     }
 }
@@ -395,8 +455,52 @@ fn what_is_not_in_order_is_refused(rt: HostRuntime) -> Result<(), Fail> {
         (1, Ask::Start("b"), Told::Refused(1399)),
         (2, Ask::End("a"), Told::Refused(1399)),
         (1, Ask::PutKeyAlone(1), Told::Refused(14020)),
-        (1, Ask::Count, Told::Refused(1235)),
         (1, Ask::Commit("a"), Told::Refused(1399)),
+    ];
+    assert!(rt; play(&rt, &mut store, &steps)?);
+    Ok(())
+}
+
+#[test]
+fn aggregates_of_nothing_are_null(rt: HostRuntime) -> Result<(), Fail> {
+    let mut store = opened(&rt)?;
+    let steps = [
+        (1, Ask::Start("a"), Told::Done(0)),
+        (1, Ask::Total("t", Total::Count, 9), Told::Cell("0")),
+        (1, Ask::Total("t", Total::Sum("n"), 9), Told::Null),
+        (1, Ask::Total("t", Total::Min("n"), 9), Told::Null),
+        (1, Ask::Total("u", Total::Max("s"), 9), Told::Null),
+    ];
+    assert!(rt; play(&rt, &mut store, &steps)?);
+    Ok(())
+}
+
+#[test]
+fn aggregates_are_over_all_rows(rt: HostRuntime) -> Result<(), Fail> {
+    let mut store = opened(&rt)?;
+    let steps = [
+        (1, Ask::Start("a"), Told::Done(0)),
+        (1, Ask::Put(1, 5), Told::Done(1)),
+        (1, Ask::Put(2, -7), Told::Done(1)),
+        (1, Ask::Put(3, 5), Told::Done(1)),
+        (1, Ask::Total("t", Total::Count, 1), Told::Cell("3")),
+        (1, Ask::Total("t", Total::Sum("n"), 1), Told::Cell("3")),
+        (1, Ask::Total("t", Total::Min("n"), 9), Told::Cell("-7")),
+        (1, Ask::Total("t", Total::Max("k"), 9), Told::Cell("3")),
+        (1, Ask::Total("t", Total::Count, 0), Told::NoCells),
+    ];
+    assert!(rt; play(&rt, &mut store, &steps)?);
+    Ok(())
+}
+
+#[test]
+fn what_has_no_aggregate_is_refused(rt: HostRuntime) -> Result<(), Fail> {
+    let mut store = opened(&rt)?;
+    let steps = [
+        (1, Ask::Start("a"), Told::Done(0)),
+        (1, Ask::Total("u", Total::Sum("s"), 9), Told::Refused(14020)),
+        (1, Ask::Total("t", Total::Sum("s"), 9), Told::Refused(1054)),
+        (1, Ask::Total("t", Total::Max("x"), 9), Told::Refused(1054)),
     ];
     assert!(rt; play(&rt, &mut store, &steps)?);
     Ok(())

@@ -7,4 +7,5 @@ pub mod Refusing
 pub mod Rising
 pub mod Room
 pub mod Settled
+pub mod Showing
 pub mod Telling

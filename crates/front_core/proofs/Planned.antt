@@ -10,12 +10,13 @@ use Rattle.part_rules.specs.Placing.{IsRule}
 use Rattle.catalog.specs.declared.tables.Table.{Table}
 use Rattle.catalog.specs.Views.{View}
 use Rattle.catalog_plan.specs.Plans.{IsFound, IsPlanned, table_of}
+use Rattle.sql_text.specs.declared.link.ScanItems.{ScanItems}
 use Rattle.sql_text.specs.declared.statement.Statement.{Statement}
 use Rattle.sql_text.specs.declared.statement.Statement.TheVariants as statement
 use Rattle.stmt_plan.specs.declared.planned.Plan.{Plan}
 use Rattle.stmt_plan.specs.declared.planned.Work.{Work}
 use Rattle.stmt_plan.specs.Inserts.{in_keys, key_name, row_key, rows_of}
-use Rattle.stmt_plan.specs.Plans.{IsPlan, IsPushed, mode_of, keeps_key}
+use Rattle.stmt_plan.specs.Plans.{IsPlan, IsPushed, items_of, limit_of, mode_of, keeps_key}
 use Rattle.stmt_plan.specs.Refusals.{refusal}
 use Rattle.sql_replies.specs.Errors.{log_full_reply}
 use Rattle.txn_phases.specs.declared.job.Job.{Job}
@@ -24,7 +25,7 @@ use Rattle.front_core.specs.declared.event.TxNo.{TxNo}
 use Rattle.front_core.specs.declared.work.Running.{Running}
 use Rattle.front_core.specs.Asked.{pushed, parts_with, parts_asked}
 use Rattle.front_core.specs.Core.{Stepped, begins_at, begins_on, new_run, starts, answers, table_named, tx_of}
-use Rattle.front_core.specs.Jobs.{targets_of, branches_of, kinds_of, deed_by, picks_by}
+use Rattle.front_core.specs.Jobs.{targets_of, branches_of, kinds_of, deed_by, columns_by}
 use Rattle.front_core.specs.Planned.{run_by, draws}
 use Rattle.front_core.proofs.Named.{found_is_named}
 use Rattle.front_core.proofs.Parting.{parts_are}
@@ -39,14 +40,15 @@ cond_is def (statement.Update update) cond is = is
 cond_is def (statement.Delete delete) cond is = is
 
 -- the job of these parts of a plan
-abbrev job_with : View → TxNo → Table → List ℕ → Option Cond → LockMode → Work → Job
-job_with catalog tx table parts cond mode work =
+abbrev job_with : View → TxNo → Table → List ℕ → ScanItems → Option Cond → Option ℕ → LockMode → Work → Job
+job_with catalog tx table parts items cond limit mode work =
     new_job (branches_of catalog tx (targets_of mode table.parts parts)) (targets_of mode table.parts parts)
-    (record { key = key_name table.def; place = table.def.key; kinds = kinds_of table.def; cond = cond; lock = mode })
+    (record { key = key_name table.def; place = table.def.key; kinds = kinds_of table.def; items = items; cond = cond; limit = limit; lock = mode })
     (deed_by table.def table.rule work)
 
-abbrev run_with : View → TxNo → Table → ℕ → List ℕ → Option Cond → LockMode → Work → Running
-run_with catalog tx table number parts cond mode work = record { tx = tx; table = number; picks = picks_by work; job = job_with catalog tx table parts cond mode work }
+abbrev run_with : View → TxNo → Table → ℕ → List ℕ → ScanItems → Option Cond → Option ℕ → LockMode → Work → Running
+run_with catalog tx table number parts items cond limit mode work =
+    record { tx = tx; table = number; columns = columns_by work; job = job_with catalog tx table parts items cond limit mode work }
 
 module _ (catalog : View) (s : Statement) (table : Table) (number : ℕ) (plan : Plan) (is : IsPlan number table.def table.rule s plan) (is_rule : IsRule table.rule) (ends : AreBigInts plan.keys) where
   cond_same : plan.cond ≡ pushed table.def s
@@ -57,13 +59,18 @@ module _ (catalog : View) (s : Statement) (table : Table) (number : ℕ) (plan :
       parts_are table.rule (keeps_key table.def plan.cond) plan.keys is_rule ends is.keys plan.parts is.parts
       ∙ ap (λ (c : Option Cond). parts_with table.rule (keeps_key table.def c)) cond_same
 
+  abbrev asked : List ℕ
+  asked = parts_asked table.def table.rule s
+
   run_is : (tx : TxNo) → run_by catalog tx table plan ≡ new_run catalog tx number table s
   run_is tx =
-      ap (λ (n : ℕ). run_with catalog tx table n plan.parts plan.cond plan.mode plan.work) is.table_is
-      ∙ ap (λ (ps : List ℕ). run_with catalog tx table number ps plan.cond plan.mode plan.work) parts_same
-      ∙ ap (λ (c : Option Cond). run_with catalog tx table number (parts_asked table.def table.rule s) c plan.mode plan.work) cond_same
-      ∙ ap (λ (m : LockMode). run_with catalog tx table number (parts_asked table.def table.rule s) (pushed table.def s) m plan.work) is.mode
-      ∙ ap (λ (w : Work). run_with catalog tx table number (parts_asked table.def table.rule s) (pushed table.def s) (mode_of s) w) is.work_is
+      ap (λ (n : ℕ). run_with catalog tx table n plan.parts plan.pushed plan.cond plan.limit plan.mode plan.work) is.table_is
+      ∙ ap (λ (ps : List ℕ). run_with catalog tx table number ps plan.pushed plan.cond plan.limit plan.mode plan.work) parts_same
+      ∙ ap (λ (i : ScanItems). run_with catalog tx table number asked i plan.cond plan.limit plan.mode plan.work) is.items
+      ∙ ap (λ (c : Option Cond). run_with catalog tx table number asked (items_of s) c plan.limit plan.mode plan.work) cond_same
+      ∙ ap (λ (l : Option ℕ). run_with catalog tx table number asked (items_of s) (pushed table.def s) l plan.mode plan.work) is.limit_is
+      ∙ ap (λ (m : LockMode). run_with catalog tx table number asked (items_of s) (pushed table.def s) (limit_of table.def s) m plan.work) is.mode
+      ∙ ap (λ (w : Work). run_with catalog tx table number asked (items_of s) (pushed table.def s) (limit_of table.def s) (mode_of s) w) is.work_is
 
   abbrev drawn_by : Bool → ℕ → Running → Stepped
   drawn_by b drawn run = cond b (answers drawn log_full_reply) (starts catalog (drawn + 1) run)

@@ -2,6 +2,7 @@
 use Rattle.std.proofs.Common.{◌≡◌, ◌+◌, ◌-◌, ◌≤◌, ℕ, ℤ, zero, suc, Bool, true, false, List, [], ◌∷◌, Option, Some, None, map, max, length, refl, ◌∙◌, ap, arith, inl, inr, nat_lt}
 use Rattle.std.specs.Prelude.{Result, Ok, Err, nat_le}
 use Rattle.std.specs.List.{filter}
+use Rattle.std.specs.Option.{option_map}
 use Rattle.std.proofs.lemmas.Bool.{cases_Bool}
 use Rattle.std.proofs.lemmas.List.{length-map, length-append}
 use Rattle.sql_values.specs.declared.value.Value.{Value}
@@ -25,8 +26,8 @@ use Rattle.txn_phases.specs.declared.phase.Phase.TheVariants as phase
 use Rattle.txn_phases.specs.declared.phase.Target.{Target}
 use Rattle.txn_phases.specs.declared.partitions.PlacedKey.{PlacedKey}
 use Rattle.txn_phases.specs.declared.requests.Ask.{Ask}
-use Rattle.txn_phases.specs.Deeds.{news_in, taken_key, merged_within, writes_too_much, changes_of, keys_in, placed_keys, deletes_too_much}
-use Rattle.txn_phases.specs.Phases.{to_branches, begun_of, scan_of, scans_of, puts_of, put_of, dels_of, del_of, asking, gives_up_by, gives_up, ends_by, ends, writes_by, selects, putting, inserting_by, updating_by, updating, deleting_keys, deleting, writes, concluded_by, concluded, decided, follows, is_open, leaves, marked, marked_in, keeps, noted, goes_on, hears, begins_by, begins, with_branches, hearing, server_at, is_scanning, is_starting, counts_at}
+use Rattle.txn_phases.specs.Deeds.{news_in, taken_key, merged_within, found_within, cells_within, writes_too_much, changes_of, keys_in, placed_keys, deletes_too_much}
+use Rattle.txn_phases.specs.Phases.{to_branches, begun_of, scan_of, scans_of, puts_of, put_of, dels_of, del_of, asking, gives_up_by, gives_up, ends_by, ends, writes_by, tells, putting, inserting_by, updating_by, updating, deleting_keys, deleting, writes, concluded_by, concluded, decided, follows, is_open, leaves, marked, marked_in, keeps, noted, goes_on, hears, begins_by, begins, with_branches, hearing, server_at, is_scanning, is_starting, counts_at}
 use Rattle.front_core.specs.Planned.{most_asked, needed}
 
 few_kept : (p : Branch → Bool) (bs : List Branch) → length (filter p bs) ≤ length bs
@@ -96,9 +97,9 @@ written : (job : Job) (o : Outcome) (asks : List Ask) → length asks ≤ most_a
 written job o [] few = ended job o
 written job o (a ∷ asks) few = omega arith
 
-selected : (job : Job) (rows : Option (List (List Value))) → needed (selects job rows).1 ≤ most_asked job + 3
-selected job None = given_up job outcome.AnswerLimit
-selected job (Some rows) = ended job (outcome.Found rows)
+told : (job : Job) (o : Option Outcome) → needed (tells job o).1 ≤ most_asked job + 3
+told job None = given_up job outcome.AnswerLimit
+told job (Some o) = ended job o
 
 put_rows : (job : Job) (news : List PlacedRow) → needed (writes job (putting job.targets news)).1 ≤ most_asked job + 3
 put_rows job news = elim (cases_Bool (writes_too_much job.targets news)) [
@@ -129,10 +130,11 @@ deleted job rule None = given_up job outcome.AnswerLimit
 deleted job rule (Some rows) = keys_gone job (length rows) (placed_keys rule job.scan.place rows)
 
 concluded_few : (job : Job) (d : Deed) → needed (concluded_by job d).1 ≤ most_asked job + 3
-concluded_few job deed.Select = selected job (merged_within job.scan.place job.found)
+concluded_few job (deed.Select order skip most) = told job (option_map outcome.Found (merged_within order skip most job.found))
+concluded_few job (deed.Aggregate aggregates) = told job (option_map outcome.Cells (cells_within aggregates job.found))
 concluded_few job (deed.Insert news) = inserted job news (taken_key job.scan.place job.found news)
-concluded_few job (deed.Update c) = updated job c (merged_within job.scan.place job.found)
-concluded_few job (deed.Delete rule) = deleted job rule (merged_within job.scan.place job.found)
+concluded_few job (deed.Update c) = updated job c (found_within job.scan.place job.found)
+concluded_few job (deed.Delete rule) = deleted job rule (found_within job.scan.place job.found)
 
 followed : (p : Phase) (job : Job) → needed (follows p job).1 ≤ most_asked job + 3
 followed phase.Starting job = omega (arith, length-map job.targets (scan_ask job.scan))

@@ -1,6 +1,7 @@
 -- A statement that is over owes nothing.
 use Rattle.std.proofs.Common.{◌≡◌, ◌==◌, ℕ, ℤ, Bool, true, false, List, [], ◌∷◌, Option, Some, None, map, length, cond, refl, sym, ◌∙◌, inl, inr, nat_lt}
 use Rattle.std.specs.Prelude.{Result, Ok, Err}
+use Rattle.std.specs.Option.{option_map}
 use Rattle.std.proofs.lemmas.Bool.{cases_Bool, both_ways}
 use Rattle.std.proofs.lemmas.List.{length-map}
 use Rattle.sql_values.specs.declared.value.Value.{Value}
@@ -22,8 +23,8 @@ use Rattle.txn_phases.specs.declared.phase.Stage.{Stage}
 use Rattle.txn_phases.specs.declared.phase.Stage.TheVariants as stage
 use Rattle.txn_phases.specs.declared.partitions.PlacedKey.{PlacedKey}
 use Rattle.txn_phases.specs.declared.requests.Ask.{Ask}
-use Rattle.txn_phases.specs.Deeds.{taken_key, merged_within, writes_too_much, changes_of, placed_keys, deletes_too_much}
-use Rattle.txn_phases.specs.Phases.{begun_of, puts_of, dels_of, gives_up_by, gives_up, ends_by, ends, writes_by, selects, putting, inserting_by, updating_by, updating, deleting_keys, deleting, writes, concluded_by, follows, is_open, leaves, noted, goes_on, hears, stage_of, undone_in, owed_of, owed_noted}
+use Rattle.txn_phases.specs.Deeds.{taken_key, merged_within, found_within, cells_within, writes_too_much, changes_of, placed_keys, deletes_too_much}
+use Rattle.txn_phases.specs.Phases.{begun_of, puts_of, dels_of, gives_up_by, gives_up, ends_by, ends, writes_by, tells, putting, inserting_by, updating_by, updating, deleting_keys, deleting, writes, concluded_by, follows, is_open, leaves, noted, goes_on, hears, stage_of, undone_in, owed_of, owed_noted}
 use Rattle.front_core.specs.Core.{is_settled, owing}
 use Rattle.front_core.specs.declared.work.Work.TheVariants.{Idle}
 use Rattle.front_core.specs.Planned.{is_over}
@@ -58,9 +59,9 @@ written : (job : Job) (o : Outcome) (asks : List Ask) → is_over (writes_by job
 written job o [] over = ended job o over
 written job o (a ∷ asks) over = absurd (both_ways false refl over)
 
-selected : (job : Job) (rows : Option (List (List Value))) → is_over (selects job rows).1 ≡ true → NoneBegun job
-selected job None over = given_up job outcome.AnswerLimit over
-selected job (Some rows) over = ended job (outcome.Found rows) over
+told : (job : Job) (o : Option Outcome) → is_over (tells job o).1 ≡ true → NoneBegun job
+told job None over = given_up job outcome.AnswerLimit over
+told job (Some o) over = ended job o over
 
 put_rows : (job : Job) (news : List PlacedRow) → is_over (writes job (putting job.targets news)).1 ≡ true → NoneBegun job
 put_rows job news over = elim (cases_Bool (writes_too_much job.targets news)) [
@@ -91,10 +92,11 @@ deleted job rule None over = given_up job outcome.AnswerLimit over
 deleted job rule (Some rows) over = keys_gone job (length rows) (placed_keys rule job.scan.place rows) over
 
 concluded : (job : Job) (d : Deed) → is_over (concluded_by job d).1 ≡ true → NoneBegun job
-concluded job deed.Select over = selected job (merged_within job.scan.place job.found) over
+concluded job (deed.Select order skip most) over = told job (option_map outcome.Found (merged_within order skip most job.found)) over
+concluded job (deed.Aggregate aggregates) over = told job (option_map outcome.Cells (cells_within aggregates job.found)) over
 concluded job (deed.Insert news) over = inserted job news (taken_key job.scan.place job.found news) over
-concluded job (deed.Update c) over = updated job c (merged_within job.scan.place job.found) over
-concluded job (deed.Delete rule) over = deleted job rule (merged_within job.scan.place job.found) over
+concluded job (deed.Update c) over = updated job c (found_within job.scan.place job.found) over
+concluded job (deed.Delete rule) over = deleted job rule (found_within job.scan.place job.found) over
 
 undone : (s : Stage) (bs : List Branch) → length (begun_of bs) ≡ 0 → (length (undone_in s bs) == 0) ≡ true
 undone stage.Starting bs none = rw none refl

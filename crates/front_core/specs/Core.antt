@@ -1,5 +1,6 @@
 -- The front as a machine: what an event makes of it, and what it gives out.
 use Rattle.std.specs.Prelude.{◌≡◌, ℕ, ◌+◌, ◌-◌, ◌^◌, ◌==◌, ◌&&◌, Bool, true, false, List, [], ◌∷◌, ◌++◌, Option, Some, None, Result, Ok, Err, if◌then◌else◌, map, length, nat_le, nat_lt, is_some, is_none, slice_get, option_and_then}
+use Rattle.std.specs.List.{list_all}
 use Rattle.std.specs.Option.{option_map_or}
 use Rattle.std.specs.Ordering.{nat_cmp}
 use Rattle.std.specs.BTreeMap.{is_at, insert_entry}
@@ -13,6 +14,9 @@ use Rattle.sql_text.specs.declared.link.LinkAnswer.{LinkAnswer}
 use Rattle.sql_text.specs.declared.statement.Statement.{Statement}
 use Rattle.sql_text.specs.Parsing.{parsed}
 use Rattle.stmt_plan.specs.declared.fault.StmtFault.{StmtFault}
+use Rattle.stmt_plan.specs.declared.planned.AnswerColumns.{AnswerColumns}
+use Rattle.stmt_plan.specs.declared.planned.AnswerColumns.TheVariants as columns
+use Rattle.stmt_plan.specs.declared.planned.CellColumn.{CellColumn}
 use Rattle.stmt_plan.specs.declared.planned.Picks.{Picks}
 use Rattle.stmt_plan.specs.Apart.{are_apart, has_number_key}
 use Rattle.stmt_plan.specs.Plans.{work_of as work_planned}
@@ -20,7 +24,8 @@ use Rattle.stmt_plan.specs.Refusals.{refusal}
 use Rattle.catalog_plan.specs.Plans.{table_of}
 use Rattle.my_messages.specs.declared.reply.Reply.{Reply}
 use Rattle.sql_replies.specs.Errors.{no_memory_reply, no_table_reply, log_full_reply, limit_reply, parse_reply, plan_reply}
-use Rattle.sql_replies.specs.Outcomes.{outcome_reply, are_short_rows}
+use Rattle.front_rows.specs.Cells.{Cell}
+use Rattle.sql_replies.specs.Outcomes.{outcome_reply, are_short_rows, is_short_cell}
 use Rattle.std.specs.Prelude.{codes}
 use Rattle.txn_phases.specs.declared.deed.Outcome.{Outcome}
 use Rattle.txn_phases.specs.declared.deed.Outcome.TheVariants as outcome
@@ -42,7 +47,7 @@ use Rattle.front_core.specs.declared.event.Output.{Output}
 use Rattle.front_core.specs.declared.event.Output.TheVariants.{Send, Await, Decided, Acked, Answer}
 use Rattle.front_core.specs.declared.event.Outputs.{Outputs}
 use Rattle.front_core.specs.declared.event.Outputs.TheVariants.{Given, NoRoom}
-use Rattle.front_core.specs.Jobs.{job_of, picks_by}
+use Rattle.front_core.specs.Jobs.{job_of, columns_by}
 
 -- THE STATE
 
@@ -116,25 +121,30 @@ asked asks = sent asks ++ first_awaited asks
 abbrev pub are_few : Picks → Bool
 are_few picks = nat_lt 0 (length picks.picks) && nat_le (length picks.picks) 900
 
-abbrev pub is_showable : Option Picks → Outcome → Bool
-is_showable (Some picks) (outcome.Found rows) = are_few picks && are_short_rows rows
+-- and so do aggregates, of which each has its cell
+abbrev pub are_few_cells : List CellColumn → List Cell → Bool
+are_few_cells list cells = (nat_lt 0 (length list) && nat_le (length list) 900) && ((length cells == length list) && list_all is_short_cell cells)
+
+abbrev pub is_showable : Option AnswerColumns → Outcome → Bool
+is_showable (Some (columns.Picks picks)) (outcome.Found rows) = are_few picks && are_short_rows rows
+is_showable (Some (columns.Cells list)) (outcome.Cells cells) = are_few_cells list cells
 is_showable _ _ = true
 
 -- what a client is told of an outcome. Rows that no packets can hold, which no table has, are refused as too large an answer
-abbrev pub outcome_told : View → Option Picks → TableDef → Outcome → Reply
-outcome_told catalog picks def o = if is_showable picks o then outcome_reply def picks catalog.servers o else limit_reply (codes "answer")
+abbrev pub outcome_told : View → Option AnswerColumns → TableDef → Outcome → Reply
+outcome_told catalog columns def o = if is_showable columns o then outcome_reply def columns catalog.servers o else limit_reply (codes "answer")
 
-abbrev pub reply_on : View → Option Picks → Option Table → Outcome → Reply
-reply_on catalog picks None o = no_memory_reply
-reply_on catalog picks (Some table) o = outcome_told catalog picks table.def o
+abbrev pub reply_on : View → Option AnswerColumns → Option Table → Outcome → Reply
+reply_on catalog columns None o = no_memory_reply
+reply_on catalog columns (Some table) o = outcome_told catalog columns table.def o
 
 abbrev pub reply_to : View → Running → Outcome → Reply
-reply_to catalog run o = reply_on catalog run.picks (slice_get catalog.tables run.table) o
+reply_to catalog run o = reply_on catalog run.columns (slice_get catalog.tables run.table) o
 
 -- HOW A STATEMENT GOES ON
 
 abbrev pub with_job : Running → Job → Running
-with_job run job = record { tx = run.tx; table = run.table; picks = run.picks; job = job }
+with_job run job = record { tx = run.tx; table = run.table; columns = run.columns; job = job }
 
 -- a decision is told before its COMMITs, or before its acknowledgement where there is none to send
 abbrev pub ended : TxNo → Ending → Reply → List Output
@@ -174,7 +184,7 @@ abbrev pub table_named : List Table → List ℕ → Option (ℕ × Table)
 table_named tables name = option_and_then (table_at tables) (place_in (map table_name tables) name)
 
 abbrev pub new_run : View → TxNo → ℕ → Table → Statement → Running
-new_run catalog tx number table s = record { tx = tx; table = number; picks = picks_by (work_planned table.def s); job = job_of catalog tx table s }
+new_run catalog tx number table s = record { tx = tx; table = number; columns = columns_by (work_planned table.def s); job = job_of catalog tx table s }
 
 abbrev pub started : ℕ → Work × List Output → Stepped
 started drawn r = (drawn, r.0, r.1)

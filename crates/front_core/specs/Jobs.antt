@@ -18,11 +18,13 @@ use Rattle.catalog.specs.declared.tables.Table.{Table}
 use Rattle.catalog.specs.Links.{is_ok}
 use Rattle.catalog.specs.Views.{View}
 use Rattle.sql_text.specs.declared.statement.Statement.{Statement}
-use Rattle.stmt_plan.specs.declared.planned.Picks.{Picks}
+use Rattle.stmt_plan.specs.declared.planned.AnswerColumns.{AnswerColumns}
+use Rattle.stmt_plan.specs.declared.planned.AnswerColumns.TheVariants as columns
 use Rattle.stmt_plan.specs.declared.planned.Work.{Work}
 use Rattle.stmt_plan.specs.declared.planned.Work.TheVariants as work
 use Rattle.stmt_plan.specs.Inserts.{key_name}
-use Rattle.stmt_plan.specs.Plans.{mode_of, work_of}
+use Rattle.stmt_plan.specs.Plans.{items_of, limit_of, mode_of, work_of}
+use Rattle.stmt_plan.specs.Selects.{aggregates_of}
 use Rattle.sql_replies.specs.Outcomes.{server_name}
 use Rattle.txn_phases.specs.declared.deed.Deed.{Deed}
 use Rattle.txn_phases.specs.declared.deed.Deed.TheVariants as deed
@@ -91,17 +93,20 @@ abbrev pub kinds_of : TableDef → List Kind
 kinds_of def = map (λ (column : ColumnDef). column.kind) def.columns
 
 abbrev pub scan_for : TableDef → Statement → TableScan
-scan_for def s = record { key = key_name def; place = def.key; kinds = kinds_of def; cond = pushed def s; lock = mode_of s }
+scan_for def s = record { key = key_name def; place = def.key; kinds = kinds_of def; items = items_of s; cond = pushed def s; limit = limit_of def s; lock = mode_of s }
 
 abbrev pub deed_by : TableDef → Rule → Work → Deed
 deed_by def rule (work.Insert rows) = deed.Insert (map (placed def rule) rows)
-deed_by def rule (work.Select picks) = deed.Select
+deed_by def rule (work.Select selected) = deed.Select selected.order selected.skip selected.most
+deed_by def rule (work.Aggregate list) = deed.Aggregate (aggregates_of list)
 deed_by def rule (work.Update sets) = deed.Update (record { table = def; rule = rule; sets = sets })
 deed_by def rule work.Delete = deed.Delete rule
 
-abbrev pub picks_by : Work → Option Picks
-picks_by (work.Select picks) = Some picks
-picks_by _ = None
+-- the columns of the answer, where the statement asks for some
+abbrev pub columns_by : Work → Option AnswerColumns
+columns_by (work.Select selected) = Some (columns.Picks selected.picks)
+columns_by (work.Aggregate list) = Some (columns.Cells list)
+columns_by _ = None
 
 -- the links that a statement asks
 abbrev pub targets_for : Table → Statement → List Target

@@ -20,7 +20,7 @@ use Rattle.txn_phases.specs.Phases.{new_job}
 use Rattle.front_core.specs.declared.event.TxNo.{TxNo}
 use Rattle.front_core.specs.declared.work.Running.{Running}
 use Rattle.front_core.specs.Core.{Stepped, answers, starts, tx_of}
-use Rattle.front_core.specs.Jobs.{written, target_at, targets_of, branches_of, kinds_of, deed_by, picks_by}
+use Rattle.front_core.specs.Jobs.{written, target_at, targets_of, branches_of, kinds_of, deed_by, columns_by}
 
 -- whether a link is asked that isn't NG
 abbrev pub is_asked : LockMode → Bool → Bool
@@ -39,7 +39,8 @@ abbrev pub targets_by : Table → Plan → List Target
 targets_by table plan = targets_of plan.mode table.parts plan.parts
 
 abbrev pub scan_by : Table → Plan → TableScan
-scan_by table plan = record { key = key_name table.def; place = table.def.key; kinds = kinds_of table.def; cond = plan.cond; lock = plan.mode }
+scan_by table plan =
+    record { key = key_name table.def; place = table.def.key; kinds = kinds_of table.def; items = plan.pushed; cond = plan.cond; limit = plan.limit; lock = plan.mode }
 
 abbrev pub job_by : View → TxNo → Table → Plan → Job
 job_by catalog tx table plan =
@@ -47,7 +48,7 @@ job_by catalog tx table plan =
 
 -- the statement of a plan, as the transaction of that number
 abbrev pub run_by : View → TxNo → Table → Plan → Running
-run_by catalog tx table plan = record { tx = tx; table = plan.table; picks = picks_by plan.work; job = job_by catalog tx table plan }
+run_by catalog tx table plan = record { tx = tx; table = plan.table; columns = columns_by plan.work; job = job_by catalog tx table plan }
 
 -- a number is drawn for it
 abbrev pub draws : View → ℕ → Table → Plan → Stepped

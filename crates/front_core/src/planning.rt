@@ -3,8 +3,9 @@ ghost use Rattle.std.specs.Prelude.{◌≡◌, ◌<◌, map, length, IfOk};
 ghost use Rattle.part_rules.specs.Placing.{IsRule};
 ghost use Rattle.sql_replies.specs.Outcomes.{server_name as name_meant};
 ghost use Rattle.stmt_plan.specs.Inserts.{key_name as key_named};
+ghost use Rattle.stmt_plan.specs.Selects.{aggregates_of as aggregates_meant};
 ghost use Rattle.txn_phases.specs.Deeds.{placed as placed_meant};
-ghost use Rattle.front_core.specs.Jobs.{xid_at as xid_meant, branch_at as branch_meant, branches_of as branches_meant, kinds_of as kinds_meant, deed_by, picks_by};
+ghost use Rattle.front_core.specs.Jobs.{xid_at as xid_meant, branch_at as branch_meant, branches_of as branches_meant, kinds_of as kinds_meant, deed_by, columns_by};
 ghost use Rattle.front_core.specs.Planned.{run_by, job_by, scan_by};
 
 use crate::TxNo;
@@ -12,11 +13,13 @@ use crate::targets::{servers_of, targets_of};
 use crate::work::Running;
 use catalog::{Catalog, Table};
 use conf_file::HostEntry;
+use front_rows::Aggregates;
 use list_types::{Listed, Text};
 use part_rules::Rule;
+use sql_text::ScanItems;
 use sql_values::{Cond, LockMode, Name, Rows, ServerNo, TableDef, Xid};
 use std::alloc::{AllocError, Global};
-use stmt_plan::{Picks, Plan, Work};
+use stmt_plan::{AnswerColumns, CellColumn, Plan, Work};
 use txn_phases::{
     Branch, Branches, Changing, Deed, Job, Kinds, PlacedRows, Placing, TableScan, Target, place_row,
 };
@@ -116,18 +119,43 @@ fn placing_of(rule: &Rule) -> Result<Placing, AllocError>
     Ok(Placing::new(rule.clone()?))
 }
 
+fn aggregates_of(alloc: Global, list: &[CellColumn]) -> Result<Aggregates, AllocError>
+    ensures { IfOk result (λ aggregates. aggregates ≡ aggregates_meant list.now) }
+{
+    let mut aggregates = Listed::new(alloc);
+    for column in list {
+        aggregates.push(column.aggregate)?;
+    }
+    Ok(aggregates)
+}
+
 /// What is done with the rows, and the columns of the answer.
-fn deed_of(alloc: Global, table: &Table, work: Work) -> Result<(Deed, Option<Picks>), AllocError>
+fn deed_of(
+    alloc: Global,
+    table: &Table,
+    work: Work,
+) -> Result<(Deed, Option<AnswerColumns>), AllocError>
     requires { IsRule table.now.rule }
     ensures deed { IfOk result (λ found. found.0 ≡ deed_by table.now.def table.now.rule work) }
-    ensures picks { IfOk result (λ found. found.1 ≡ picks_by work) }
+    ensures columns { IfOk result (λ found. found.1 ≡ columns_by work) }
 {
     match work {
         Work::Insert(rows) => {
             let news = placed_rows(alloc, &table.rule, &table.def, rows)?;
             Ok((Deed::Insert(news), None))
         }
-        Work::Select(picks) => Ok((Deed::Select, Some(picks))),
+        Work::Select(selected) => Ok((
+            Deed::Select {
+                order: selected.order,
+                skip: selected.skip,
+                most: selected.most,
+            },
+            Some(AnswerColumns::Picks(selected.picks)),
+        )),
+        Work::Aggregate(list) => Ok((
+            Deed::Aggregate(aggregates_of(alloc, list.as_slice())?),
+            Some(AnswerColumns::Cells(list)),
+        )),
         Work::Update(sets) => {
             let changing = Changing {
                 table: copied(&table.def)?,
@@ -152,17 +180,21 @@ fn key_name(alloc: Global, def: &TableDef) -> Result<Name, AllocError>
 fn scan_of(
     alloc: Global,
     def: &TableDef,
+    items: ScanItems,
     cond: Option<Cond>,
+    limit: Option<u64>,
     lock: LockMode,
 ) -> Result<TableScan, AllocError>
     requires { def.now.key < length def.now.columns }
-    ensures { IfOk result (λ scan. scan ≡ record { key = key_named def.now; place = def.now.key; kinds = kinds_meant def.now; cond = cond; lock = lock }) }
+    ensures { IfOk result (λ scan. scan ≡ record { key = key_named def.now; place = def.now.key; kinds = kinds_meant def.now; items = items; cond = cond; limit = limit; lock = lock }) }
 {
     Ok(TableScan {
         key: key_name(alloc, def)?,
         place: def.key,
         kinds: kinds_of(alloc, def)?,
+        items,
         cond,
+        limit,
         lock,
     })
 }
@@ -186,12 +218,19 @@ pub(crate) fn run_of(
         plan.parts.as_slice(),
     )?;
     let branches = branches_of(alloc, catalog, &tx, targets.as_slice())?;
-    let scan = scan_of(alloc, &table.def, plan.cond, plan.mode)?;
-    let (deed, picks) = deed_of(alloc, table, plan.work)?;
+    let scan = scan_of(
+        alloc,
+        &table.def,
+        plan.pushed,
+        plan.cond,
+        plan.limit,
+        plan.mode,
+    )?;
+    let (deed, columns) = deed_of(alloc, table, plan.work)?;
     Ok(Running {
         tx,
         table: plan.table,
-        picks,
+        columns,
         job: Job::new(alloc, branches, targets, scan, deed),
     })
 }

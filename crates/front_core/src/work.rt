@@ -14,7 +14,7 @@ use list_types::{Bytes, Listed};
 use sql_text::LinkAnswer;
 use sql_values::{ServerNo, TableNo};
 use std::alloc::Global;
-use stmt_plan::Picks;
+use stmt_plan::AnswerColumns;
 use txn_phases::{Job, Owed};
 
 /// A statement at work.
@@ -22,8 +22,8 @@ use txn_phases::{Job, Owed};
 pub struct Running {
     pub tx: TxNo,
     pub table: TableNo,
-    /// The columns of the answer, where it has rows.
-    pub picks: Option<Picks>,
+    /// The columns of the answer, where it has some.
+    pub columns: Option<AnswerColumns>,
     pub job: Job,
 }
 

@@ -5,6 +5,8 @@ use Rattle.sql_text.specs.declared.link.LinkRequest.{LinkRequest}
 use Rattle.sql_text.specs.declared.link.LinkRequest.TheVariants as request
 use Rattle.sql_text.specs.declared.link.LinkAnswer.{LinkAnswer}
 use Rattle.sql_text.specs.declared.link.LinkAnswer.TheVariants as answer
+use Rattle.sql_text.specs.declared.link.ScanItems.{ScanItems}
+use Rattle.sql_text.specs.declared.link.ScanItems.TheVariants as items
 use Rattle.txn_phases.specs.Phases.{is_done}
 use Rattle.my_messages.specs.declared.reply.Reply.{Reply}
 use Rattle.front_core.specs.declared.event.Event.TheVariants.{Statement as Asked, Got}
@@ -20,6 +22,17 @@ is_rows (answer.Rows rows) = true
 is_rows (answer.Refused number message) = true
 is_rows _ = false
 
+-- rows of cells, or a refusal
+abbrev pub is_cells : LinkAnswer → Bool
+is_cells (answer.Cells rows) = true
+is_cells (answer.Refused number message) = true
+is_cells _ = false
+
+-- what a scan of these items is answered
+abbrev pub is_found : ScanItems → LinkAnswer → Bool
+is_found items.All a = is_rows a
+is_found (items.Aggregates calls) a = is_cells a
+
 -- names of branches, or a refusal
 abbrev pub is_xids : LinkAnswer → Bool
 is_xids (answer.Xids xids) = true
@@ -28,7 +41,7 @@ is_xids _ = false
 
 -- the answer has its request's form
 abbrev pub has_form : LinkRequest → LinkAnswer → Bool
-has_form (request.Scan scan) a = is_rows a
+has_form (request.Scan scan) a = is_found scan.items a
 has_form request.Recover a = is_xids a
 has_form _ a = is_done a
 

@@ -12,7 +12,7 @@ pub trait Backs {
     /// From the first state to the second that server was asked this request, and answered so.
     ghost asks: { Self → ℕ → LinkRequest → LinkAnswer → Self → Type 0 };
 
-    /// Asks a server. Its answer has the request's form: rows to a scan, names of branches to the question for prepared ones, done to
+    /// Asks a server. Its answer has the request's form: rows or aggregates to a scan, as it asks, names of branches to the question for prepared ones, done to
     /// any other request, or a refusal to each. After want of memory nothing has changed.
     fn ask(
         &mut self,

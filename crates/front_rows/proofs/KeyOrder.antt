@@ -23,13 +23,13 @@ one_order order rows first second one other =
     one_list (before order) (before_ranks order) first second one.sorted_by other.sorted_by (λ z. one.stable z ∙ sym (other.stable z))
 
 -- by the key column alone, rising
-abbrev by_key : ℕ → List Sort
+abbrev pub by_key : ℕ → List Sort
 by_key column = record { column = column; rising = true } ∷ []
 
 below_so : (a b : ℤ) → a <ℤ b → is_lt (ordering_then (int_cmp a b) Equal) ≡ true
 below_so a b below = grind (arith, ints)
 
-key_before : (column : ℕ) (x y : List Value) (a b : ℤ) → slice_get x column ≡ Some (Number a) → slice_get y column ≡ Some (Number b) → a <ℤ b →
+pub key_before : (column : ℕ) (x y : List Value) (a b : ℤ) → slice_get x column ≡ Some (Number a) → slice_get y column ≡ Some (Number b) → a <ℤ b →
     before (by_key column) x y ≡ true
 key_before column x y a b at there below = rw (at, there) (below_so a b below)
 
@@ -38,15 +38,20 @@ sorted_more : {X : Type 0} (lt : X → X → Bool) (x y : X) (ys : List X) → l
 sorted_more lt x y ys first rest zero d from within = first
 sorted_more lt x y ys first rest (suc k) d from within = rw (add-one (suc k)) (rw (add-one k) at (rest k d (omega arith) (omega arith)))
 
-sorted_rise : (column : ℕ) (x : List Value) (low : ℤ) (rows : List (List Value)) → slice_get x column ≡ Some (Number low) →
-    RisesFrom column low rows → IsSortedBy (before (by_key column)) (x ∷ rows)
-sorted_rise column x low [] at rise = λ k d from within. absurd (omega arith)
-sorted_rise column x low (row ∷ rows) at (key, there, above, rest) =
-    sorted_more (before (by_key column)) x row rows ((before_ranks (by_key column)).one_way x row (key_before column x row low key at there above)) (sorted_rise column row key rows there rest)
+-- the order puts a row with a lower key first
+abbrev pub PutsKeysFirst : ℕ → List Sort → Type 0
+PutsKeysFirst column order = (x y : List Value) (a b : ℤ) → slice_get x column ≡ Some (Number a) → slice_get y column ≡ Some (Number b) → a <ℤ b → before order x y ≡ true
 
-pub sorted_rows : (column : ℕ) (rows : List (List Value)) → Rises column rows → IsSortedBy (before (by_key column)) rows
-sorted_rows column [] rise = λ k d from within. absurd (omega arith)
-sorted_rows column (row ∷ rows) (key, at, rest) = sorted_rise column row key rows at rest
+sorted_rise : (column : ℕ) (order : List Sort) (x : List Value) (low : ℤ) (rows : List (List Value)) → PutsKeysFirst column order → slice_get x column ≡ Some (Number low) →
+    RisesFrom column low rows → IsSortedBy (before order) (x ∷ rows)
+sorted_rise column order x low [] keys at rise = λ k d from within. absurd (omega arith)
+sorted_rise column order x low (row ∷ rows) keys at (key, there, above, rest) =
+    sorted_more (before order) x row rows ((before_ranks order).one_way x row (keys x row low key at there above)) (sorted_rise column order row key rows keys there rest)
+
+-- rows that rise by the key are in such an order
+pub sorted_rows : (column : ℕ) (order : List Sort) (rows : List (List Value)) → PutsKeysFirst column order → Rises column rows → IsSortedBy (before order) rows
+sorted_rows column order [] keys rise = λ k d from within. absurd (omega arith)
+sorted_rows column order (row ∷ rows) keys (key, at, rest) = sorted_rise column order row key rows keys at rest
 
 -- nothing ties with what stands before it
 tied_both : {X : Type 0} (lt : X → X → Bool) → IsStrictWeakOrder lt → (z x y : X) → ties lt z x ≡ true → ties lt z y ≡ true → lt x y ≡ false
@@ -137,6 +142,6 @@ pub keys_merge : KeysMerge
 keys_merge column rows sorted rising order moved rise =
     one_order (by_key column) rows sorted rising order (record {
       same_rows = moved;
-      sorted_by = sorted_rows column rising rise;
+      sorted_by = sorted_rows column (by_key column) rising (key_before column) rise;
       stable = λ z. same_few (ties (before (by_key column)) z) rows rising moved (few_tie column z rising rise);
     })

@@ -1,3 +1,11 @@
+pub mod Aggregated
+pub mod Bounds
+pub mod FirstRows
+pub mod KeyLast
 pub mod KeyOrder
 pub mod OneList
+pub mod Numbers
 pub mod Orders
+pub mod Parts
+pub mod Shuffled
+pub mod Sorted

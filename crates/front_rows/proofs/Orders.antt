@@ -55,7 +55,7 @@ same_total R S same total = record {
   congr = λ x y z tied. same x z ∙ total.congr x y z (sym (same x y) ∙ tied) ∙ sym (same y z);
 }
 
-cell_total : IsTotalOrder cell_cmp
+pub cell_total : IsTotalOrder cell_cmp
 cell_total = same_total cell_cmp by_parts cell_parts parts_total
 
 sort_total : (sort : Sort) → IsTotalOrder (sort_cmp sort)

@@ -1,5 +1,7 @@
+pub mod Aggregates
 pub mod Cells
 pub mod Comparing
 pub mod Gathering
 pub mod Laws
 pub mod Merging
+pub mod Sorting

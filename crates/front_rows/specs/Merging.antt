@@ -1,5 +1,5 @@
 -- The rows of several parts in one order.
-use Rattle.std.specs.Prelude.{◌≡◌, ℕ, ◌*◌, Bool, true, ◌||◌, List, Option, Some, None, length, nat_lt, sum_by, take, drop}
+use Rattle.std.specs.Prelude.{◌≡◌, ℕ, ◌*◌, Bool, true, ◌||◌, List, [], ◌∷◌, Option, Some, None, length, nat_lt, sum_by, take, drop}
 use Rattle.std.specs.List.Sorted.{IsPermutation, IsSortedBy, IsStableBy}
 use Rattle.sql_values.specs.declared.value.Value.{Value}
 use Rattle.sql_values.specs.Storing.{row_size}
@@ -7,6 +7,7 @@ use Rattle.sql_text.specs.declared.link.LinkAnswer.{LinkAnswer}
 use Rattle.front_rows.specs.declared.order.Sort.{Sort}
 use Rattle.front_rows.specs.Comparing.{before}
 use Rattle.front_rows.specs.Gathering.{all_rows}
+use Rattle.front_rows.specs.Sorting.{sorted_by}
 
 -- these are the same rows, in the order; rows that are equal by it stay as they came
 pub record IsInOrder (order : List Sort) (rows sorted : List (List Value)) : Type 0 where
@@ -18,6 +19,18 @@ pub record IsInOrder (order : List Sort) (rows sorted : List (List Value)) : Typ
 abbrev pub cut : ℕ → Option ℕ → List (List Value) → List (List Value)
 cut skip None rows = drop skip rows
 cut skip (Some most) rows = take most (drop skip rows)
+
+-- the order of the key in this column, rising
+abbrev pub key_order : ℕ → List Sort
+key_order place = record { column = place; rising = true } ∷ []
+
+-- rows in the order, cut so
+abbrev pub arranged : List Sort → ℕ → Option ℕ → List (List Value) → List (List Value)
+arranged order skip most rows = cut skip most (sorted_by (before order) rows)
+
+-- the rows of the parts, in the order and cut so
+abbrev pub merged_rows : List Sort → ℕ → Option ℕ → List LinkAnswer → List (List Value)
+merged_rows order skip most parts = arranged order skip most (all_rows parts)
 
 -- more than 100,000 rows, or more than 64 MiB
 abbrev pub is_too_large : List (List Value) → Bool

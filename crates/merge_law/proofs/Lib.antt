@@ -1,2 +1,5 @@
+pub mod Counted
+pub mod Found
+pub mod Merged
+pub mod Ordered
 pub mod Permuted
-pub mod Scans

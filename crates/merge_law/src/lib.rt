@@ -1,13 +1,33 @@
 //! The law of merging: a statement over partitions is the statement on the whole list of rows.
 //!
-//! A statement's plan asks partitions for the rows of its condition. [`merged_scans_are_statements`] says that these, put together in the order of their
-//! keys as `front_rows` does it, give the answer that the statement has on the plain table, and what it writes there. Nothing of a partition, a
+//! A statement's plan asks partitions for rows of its condition, or for aggregates over these. [`statements_are_merged`] says that what they answer, put
+//! together as `front_rows` does it, gives the answer that the statement has on the plain table, and what it writes there. Nothing of a partition, a
 //! rule or a plan is left in what is answered.
 #![tactic(auto)]
 
-ghost use Rattle.merge_law.specs.Merging.{MergedScansAreStatements};
+ghost use Rattle.merge_law.specs.Merging.{RowsAreMerged, AggregatesAreMerged, AggregatesFit, AggregatesCanMerge, StatementsAreMerged};
 
-/// A statement that isn't refused is its plan's work on what the plan's partitions have, merged by key.
-pub fn merged_scans_are_statements()
-    ensures { MergedScansAreStatements }
+/// The rows that a plan's partitions answer, merged, are those of the plain table.
+pub fn rows_are_merged()
+    ensures { RowsAreMerged }
+{}
+
+/// The aggregates that they answer, merged, are those of the plain table.
+pub fn aggregates_are_merged()
+    ensures { AggregatesAreMerged }
+{}
+
+/// Each of these answers is cells that the plan's aggregates may give.
+pub fn aggregates_fit()
+    ensures { AggregatesFit }
+{}
+
+/// No sum of theirs passes 128 bits.
+pub fn aggregates_can_merge()
+    ensures { AggregatesCanMerge }
+{}
+
+/// A statement that isn't refused is its plan's work on what the plan's partitions answer.
+pub fn statements_are_merged()
+    ensures { StatementsAreMerged }
 {}

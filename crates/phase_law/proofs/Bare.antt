@@ -23,6 +23,7 @@ use Rattle.sql_values.specs.Kinds.{literal_kind, are_comparable}
 use Rattle.stmt_plan.specs.Plans.{IsTable}
 use Rattle.stmt_plan.specs.Selects.{called, bare_name, bare_operand, bare_layer, unqualified}
 use Rattle.stmt_plan.proofs.Meant.{found_mapped}
+use Rattle.plain_tables.proofs.Scanned.{both_none}
 
 -- NAMES
 
@@ -81,18 +82,14 @@ bare_kind def n m name known =
 abbrev pub AreKnown : TableDef → List ℕ → List ColumnName → Type 0
 AreKnown def n names = find (is_unknown (called def n ∷ [])) names ≡ None
 
-or_parts : {X : Type 0} (first second : Option X) → option_or first second ≡ None → (first ≡ None) × (second ≡ None)
-or_parts None second none = (refl, none)
-or_parts (Some x) second none = absurd (let no : Some x ≡ None = none in cc)
-
-known_parts : (def : TableDef) (n : List ℕ) (xs ys : List ColumnName) → AreKnown def n (xs ++ ys) → AreKnown def n xs × AreKnown def n ys
-known_parts def n xs ys known = or_parts (find (is_unknown (called def n ∷ [])) xs) (find (is_unknown (called def n ∷ [])) ys) (sym (find-append (is_unknown (called def n ∷ [])) xs ys) ∙ known)
+pub known_parts : (def : TableDef) (n : List ℕ) (xs ys : List ColumnName) → AreKnown def n (xs ++ ys) → AreKnown def n xs × AreKnown def n ys
+known_parts def n xs ys known = both_none (find (is_unknown (called def n ∷ [])) xs) (find (is_unknown (called def n ∷ [])) ys) (sym (find-append (is_unknown (called def n ∷ [])) xs ys) ∙ known)
 
 known_both : (def : TableDef) (n : List ℕ) (xs ys : List ColumnName) → AreKnown def n xs → AreKnown def n ys → AreKnown def n (xs ++ ys)
 known_both def n xs ys left right =
     find-append (is_unknown (called def n ∷ [])) xs ys ∙ (ap (λ o. option_or o (find (is_unknown (called def n ∷ [])) ys)) left ∙ right)
 
-known_alone : (def : TableDef) (n : List ℕ) (name : ColumnName) → AreKnown def n (name ∷ []) → is_unknown (called def n ∷ []) name ≡ false
+pub known_alone : (def : TableDef) (n : List ℕ) (name : ColumnName) → AreKnown def n (name ∷ []) → is_unknown (called def n ∷ []) name ≡ false
 known_alone def n name known = not_found (is_unknown (called def n ∷ []) name) known
   where
     not_found : (b : Bool) → cond {A = Option ColumnName} b (Some name) None ≡ None → b ≡ false

@@ -19,8 +19,13 @@ use Rattle.sql_values.specs.Checks.{is_unknown, is_ambiguous, first_column, cond
 use Rattle.sql_values.specs.Columns.{may_mean, columns_meant, column_kind}
 use Rattle.sql_values.specs.Kinds.{literal_kind, are_comparable}
 use Rattle.part_rules.specs.declared.rule.Rule.{Rule}
+use Rattle.sql_text.specs.declared.link.LinkAnswer.TheVariants.{Cells}
+use Rattle.sql_text.specs.declared.link.ScanItems.{ScanItems}
+use Rattle.sql_text.specs.declared.link.ScanItems.TheVariants as scan
 use Rattle.sql_text.specs.declared.statement.Delete.{Delete}
 use Rattle.sql_text.specs.declared.statement.Select.{Select}
+use Rattle.sql_text.specs.declared.statement.SelectItems.{SelectItems}
+use Rattle.sql_text.specs.declared.statement.SelectItems.TheVariants as items
 use Rattle.sql_text.specs.declared.statement.Statement.{Statement}
 use Rattle.sql_text.specs.declared.statement.Statement.TheVariants as statement
 use Rattle.sql_text.specs.declared.statement.Tab.{Tab}
@@ -29,33 +34,29 @@ use Rattle.catalog.specs.declared.tables.Table.{Table}
 use Rattle.stmt_plan.specs.declared.fault.StmtFault.{StmtFault}
 use Rattle.stmt_plan.specs.declared.fault.StmtFault.TheVariants.{KeyChanged, NoColumn, TypeMismatch}
 use Rattle.stmt_plan.specs.Inserts.{rows_of, row_key, key_name, in_keys}
-use Rattle.stmt_plan.specs.Plans.{IsTable}
+use Rattle.stmt_plan.specs.Plans.{IsTable, items_of, limit_of}
 use Rattle.stmt_plan.specs.Refusals.{refusal, no_column, ambiguous, key_changed, column_count, value_fault, no_partition, mismatch, mismatch_in}
-use Rattle.stmt_plan.specs.Selects.{called, known_name, item_columns, where_columns, bare_layer, unqualified}
+use Rattle.stmt_plan.specs.Selects.{called, calls_fit, known_as, known_name, item_columns, items_by, order_columns, where_columns, bare_layer, unqualified}
 use Rattle.stmt_plan.specs.Settings.{assigned_columns, settings, sets_fit, sets_key}
 use Rattle.stmt_plan.proofs.BareNames.{unqualified_means_the_same}
-use Rattle.stmt_plan.proofs.Seeks.{first-append}
 use Rattle.plain_tables.specs.Rows.{Row, holds_on, kept}
+use Rattle.plain_tables.specs.Scans.{answer_of, first_rows}
+use Rattle.plain_tables.proofs.Scanned.{both_none, first_none, last_none, unmapped}
 use Rattle.plain_tables.proofs.Members.{at_front, behind, either, nothing}
 use Rattle.branch_store.specs.declared.fault.BranchFault.{BranchFault}
 use Rattle.branch_store.specs.declared.fault.BranchFault.TheVariants as fault
-use Rattle.branch_store.specs.Faults.{cond_fault, fault_of_check}
+use Rattle.branch_store.specs.Faults.{cond_fault, fault_of_check, items_fault, key_fault}
 use Rattle.txn_phases.specs.declared.phase.Target.{Target}
 use Rattle.front_core.specs.Asked.{pushed, rising}
 use Rattle.front_core.specs.Jobs.{scan_for}
+use Rattle.front_rows.specs.Aggregates.{cells_over}
+use Rattle.txn_phases.specs.Phases.{order_of}
 use Rattle.phase_law.proofs.Bare.{AreKnown, alone_known, conditions_fit_alike, none_ambiguous}
+use Rattle.phase_law.proofs.BareCalls.{calls_alike, items_known}
 use Rattle.phase_law.proofs.Lists.{is_other, at_place, place_of}
-use Rattle.phase_law.proofs.Scans.{FitsScan, KeepsAlike}
+use Rattle.phase_law.proofs.Scans.{FindsAlike, FitsScan}
 
 -- RULES THAT ARE KEPT
-
-pub or_parts : {X : Type 0} (a b : Option X) → option_or a b ≡ None → (a ≡ None) × (b ≡ None)
-or_parts None b none = (refl, none)
-or_parts (Some x) b none = absurd (let no : Some x ≡ None = none in cc)
-
-pub unmapped : {X Y : Type 0} (f : X → Y) (a : Option X) → option_map f a ≡ None → a ≡ None
-unmapped f None none = refl
-unmapped f (Some x) none = absurd (let no : Some (f x) ≡ None = none in cc)
 
 -- no rule is broken
 pub record Passes (def : TableDef) (rule : Rule) (s : Statement) : Type 0 where
@@ -68,13 +69,13 @@ pub record Passes (def : TableDef) (rule : Rule) (s : Statement) : Type 0 where
 
 pub passes : (def : TableDef) (rule : Rule) (s : Statement) → refusal def rule s ≡ None → Passes def rule s
 passes def rule s none =
-    let one = or_parts (no_column def s) _ none in
-    let two = or_parts (ambiguous def s) _ one.1 in
-    let three = or_parts (key_changed def s) _ two.1 in
-    let four = or_parts (column_count def s) _ three.1 in
-    let five = or_parts (value_fault def s) _ four.1 in
-    let six = or_parts (no_partition def rule s) _ five.1 in
-    let seven = or_parts (mismatch def s) None six.1 in
+    let one = both_none (no_column def s) _ none in
+    let two = both_none (ambiguous def s) _ one.1 in
+    let three = both_none (key_changed def s) _ two.1 in
+    let four = both_none (column_count def s) _ three.1 in
+    let five = both_none (value_fault def s) _ four.1 in
+    let six = both_none (no_partition def rule s) _ five.1 in
+    let seven = both_none (mismatch def s) None six.1 in
     record { known = one.0; key_stays = three.0; counted = four.0; stored = five.0; placed = six.0; comparable = seven.0 }
 
 -- an UPDATE doesn't set the key column
@@ -119,13 +120,22 @@ NoneUnknown def k names = first_column (is_unknown (called def k ∷ [])) names 
 
 -- where all columns of a text are, those of its second part are
 last_known : (def : TableDef) (k : List ℕ) (before names : List ColumnName) → NoneUnknown def k (before ++ names) → NoneUnknown def k names
-last_known def k before names none =
-    let test : ColumnName → Bool = is_unknown (called def k ∷ []) in
-    (or_parts (first_column test before) (first_column test names) (sym (first-append test before names) ∙ none)).1
+last_known def k before names none = last_none (is_unknown (called def k ∷ [])) before names none
+
+-- and so are those of its first part
+first_part_known : (def : TableDef) (k : List ℕ) (names behind : List ColumnName) → NoneUnknown def k (names ++ behind) → NoneUnknown def k names
+first_part_known def k names behind none = first_none (is_unknown (called def k ∷ [])) names behind none
 
 -- those of WHERE: a SELECT knows its table by the name that it gives it, each other statement by the table's own
 pub select_known : (def : TableDef) (select : Select) → no_column def (statement.Select select) ≡ None → NoneUnknown def (known_name select.tab) (where_columns select.cond)
-select_known def select none = last_known def (known_name select.tab) (item_columns select.items) (where_columns select.cond) (unmapped NoColumn _ none)
+select_known def select none =
+    first_part_known def (known_name select.tab) (where_columns select.cond) (order_columns select.order)
+    (last_known def (known_name select.tab) (item_columns select.items) (where_columns select.cond ++ order_columns select.order) (unmapped NoColumn _ none))
+
+-- those of its items
+pub items_are_known : (def : TableDef) (select : Select) → no_column def (statement.Select select) ≡ None → NoneUnknown def (known_name select.tab) (item_columns select.items)
+items_are_known def select none =
+    first_part_known def (known_name select.tab) (item_columns select.items) (where_columns select.cond ++ order_columns select.order) (unmapped NoColumn _ none)
 
 pub update_known : (def : TableDef) (update : Update) → no_column def (statement.Update update) ≡ None → NoneUnknown def def.name (where_columns update.cond)
 update_known def update none = last_known def def.name (assigned_columns update.sets) (where_columns update.cond) (unmapped NoColumn _ none)
@@ -210,17 +220,36 @@ keys_fit def m keys is =
 
 pushed_fits : (def : TableDef) (rule : Rule) (m : List ℕ) (s : Statement) → IsTable def → Passes def rule s → cond_fault (called def m) (pushed def s) ≡ None
 pushed_fits def rule m (statement.Insert insert) is pass = keys_fit def m (rising (map (row_key def.key) (rows_of def insert.columns insert.rows))) is
-pushed_fits def rule m (statement.Select select) is pass = where_fits def (known_name select.tab) m select.cond is (select_known def select pass.known) pass.comparable
+pushed_fits def rule m (statement.Select select) is pass =
+    where_fits def (known_name select.tab) m select.cond is (select_known def select pass.known)
+    (comparable_by (calls_fit (known_as def select.tab) select.items) (mismatch_in (known_as def select.tab) select.cond) pass.comparable).1
 pushed_fits def rule m (statement.Update update) is pass =
     where_fits def def.name m update.cond is (update_known def update pass.known) (comparable_by (sets_fit def (settings def update.sets)) (mismatch_in def update.cond) pass.comparable).1
 pushed_fits def rule m (statement.Delete delete) is pass = where_fits def def.name m delete.cond is (delete_known def delete pass.known) pass.comparable
 
+-- so do the aggregates that are asked for
+asked_fit : (def : TableDef) (rule : Rule) (m : List ℕ) (s : Statement) → Passes def rule s → items_fault (called def m) (items_of s) ≡ None
+asked_fit def rule m (statement.Insert insert) pass = refl
+asked_fit def rule m (statement.Select select) pass =
+    items_known def (known_name select.tab) m select.items (first_known (called def (known_name select.tab) ∷ []) (item_columns select.items) (items_are_known def select pass.known))
+    (comparable_by (calls_fit (known_as def select.tab) select.items) (mismatch_in (known_as def select.tab) select.cond) pass.comparable).0
+asked_fit def rule m (statement.Update update) pass = refl
+asked_fit def rule m (statement.Delete delete) pass = refl
+
+-- rows come in the order of the key's own name
+order_fits : (def : TableDef) (m : List ℕ) (items : ScanItems) → key_fault (called def m) (order_of items (key_name def)) ≡ None
+order_fits def m scan.All =
+    let named : pointwise nat_eq (key_name def) (key_name def) ≡ true = nat_list_eq_equiv.refl (key_name def) in
+    ap (λ b. cond b None (Some (fault.NoColumn (key_name def)))) named
+order_fits def m (scan.Aggregates calls) = refl
+
 -- the scan fits the table of each link
 pub scan_fits : (table : Table) (s : Statement) (t : Target) → IsTable table.def → refusal table.def table.rule s ≡ None → FitsScan table (scan_for table.def s) t
 scan_fits table s t is none =
-    let named : pointwise nat_eq (key_name table.def) (key_name table.def) ≡ true = nat_list_eq_equiv.refl (key_name table.def) in
-    ap (λ b. option_or (cond b None (Some (fault.NoColumn (key_name table.def)))) (cond_fault (called table.def t.remote) (pushed table.def s))) named
-    ∙ pushed_fits table.def table.rule t.remote s is (passes table.def table.rule s none)
+    let pass = passes table.def table.rule s none in
+    let last : Option BranchFault = cond_fault (called table.def t.remote) (pushed table.def s) in
+    ap (λ o. option_or o (option_or (key_fault (called table.def t.remote) (order_of (items_of s) (key_name table.def))) last)) (asked_fit table.def table.rule t.remote s pass)
+    ∙ (ap (λ o. option_or o last) (order_fits table.def t.remote (items_of s)) ∙ pushed_fits table.def table.rule t.remote s is pass)
 
 -- WHAT IS KEPT
 
@@ -257,6 +286,26 @@ pushed_alike def rule m (statement.Update update) row is pass = where_alike def 
 pushed_alike def rule m (statement.Delete delete) row is pass = where_alike def def.name m row delete.cond (delete_known def delete pass.known)
 
 -- a link keeps the rows that the table does
-pub pushed_keeps : (table : Table) (s : Statement) (t : Target) → IsTable table.def → refusal table.def table.rule s ≡ None → KeepsAlike table (pushed table.def s) t
-pushed_keeps table s t is none rows =
+pushed_keeps : (table : Table) (s : Statement) (t : Target) (rows : List Row) → IsTable table.def → refusal table.def table.rule s ≡ None → kept (called table.def t.remote) (pushed table.def s) rows ≡ kept table.def (pushed table.def s) rows
+pushed_keeps table s t rows is none =
     filter_agree (holds_on (called table.def t.remote) (pushed table.def s)) (holds_on table.def (pushed table.def s)) (λ row. pushed_alike table.def table.rule t.remote s row is (passes table.def table.rule s none)) rows
+
+-- WHAT IS ANSWERED
+
+-- what is asked of the same rows is the same under each name of the table
+items_alike : (def : TableDef) (m : List ℕ) (items : SelectItems) (limit : Option ℕ) (rows : List Row) → answer_of (called def m) (items_by items) limit rows ≡ answer_of def (items_by items) limit rows
+items_alike def m items.All limit rows = refl
+items_alike def m (items.Columns list) limit rows = refl
+items_alike def m (items.Aggregates list) limit rows = ap (λ l. Cells (first_rows limit (cells_over l rows ∷ []))) (calls_alike def m list)
+
+answers_alike : (def : TableDef) (m : List ℕ) (s : Statement) (limit : Option ℕ) (rows : List Row) → answer_of (called def m) (items_of s) limit rows ≡ answer_of def (items_of s) limit rows
+answers_alike def m (statement.Insert insert) limit rows = refl
+answers_alike def m (statement.Select select) limit rows = items_alike def m select.items limit rows
+answers_alike def m (statement.Update update) limit rows = refl
+answers_alike def m (statement.Delete delete) limit rows = refl
+
+-- a link answers what the table does
+pub scan_finds : (table : Table) (s : Statement) (t : Target) → IsTable table.def → refusal table.def table.rule s ≡ None → FindsAlike table (scan_for table.def s) t
+scan_finds table s t is none rows =
+    ap (answer_of (called table.def t.remote) (items_of s) (limit_of table.def s)) (pushed_keeps table s t rows is none)
+    ∙ answers_alike table.def t.remote s (limit_of table.def s) (kept table.def (pushed table.def s) rows)

@@ -2,11 +2,12 @@
 use Rattle.std.proofs.Common.{◌≡◌, ℕ, ◌<◌, ◌≤◌, ◌^◌, ◌++◌, ℤ, Bool, true, false, cond, List, [], ◌∷◌, map, length, Option, Some, None, refl, sym, ap, ◌∙◌, subst, arith, inl, inr, map-id}
 use Rattle.std.specs.Prelude.{◌==◌, ◌||◌, ◌&&◌, FitsSigned}
 use Rattle.std.specs.Int.{w64}
-use Rattle.std.specs.List.{AllByRecursion, Contains, filter, flat_map, list_all, list_any, range_with_len}
+use Rattle.std.specs.List.{AllByRecursion, Contains, filter, flat_map, list_any, range_with_len}
 use Rattle.std.proofs.lemmas.Bool.{cases_Bool, both_ways, and_parts}
 use Rattle.std.proofs.lemmas.Int.{ints}
 use Rattle.std.proofs.lemmas.List.{length-map}
 use Rattle.sql_values.specs.declared.places.Interval.{Interval}
+use Rattle.sql_values.specs.declared.table.TableDef.{TableDef}
 use Rattle.sql_values.specs.declared.value.Value.{Value}
 use Rattle.sql_values.specs.KeySets.{AreBigInts, AreKeys, has_key, is_within}
 use Rattle.sql_values.specs.declared.tree.Cond.{Cond}
@@ -15,27 +16,33 @@ use Rattle.part_rules.specs.Pruned.{IsPruned}
 use Rattle.catalog.specs.declared.tables.Table.{Table}
 use Rattle.catalog.specs.Views.{View}
 use Rattle.catalog_plan.specs.Plans.{table_of}
-use Rattle.sql_text.specs.declared.link.LinkAnswer.TheVariants as answer
+use Rattle.sql_text.specs.declared.link.LinkAnswer.{LinkAnswer}
+use Rattle.sql_text.specs.declared.link.ScanItems.TheVariants as scan
 use Rattle.sql_text.specs.declared.statement.Delete.{Delete}
 use Rattle.sql_text.specs.declared.statement.Insert.{Insert}
 use Rattle.sql_text.specs.declared.statement.Select.{Select}
+use Rattle.sql_text.specs.declared.statement.SelectItems.{SelectItems}
+use Rattle.sql_text.specs.declared.statement.SelectItems.TheVariants as items
 use Rattle.sql_text.specs.declared.statement.Statement.{Statement}
 use Rattle.sql_text.specs.declared.statement.Statement.TheVariants as statement
 use Rattle.sql_text.specs.declared.statement.Update.{Update}
+use Rattle.stmt_plan.specs.declared.planned.Selected.{Selected}
 use Rattle.stmt_plan.specs.declared.planned.SetColumn.{SetColumn}
+use Rattle.stmt_plan.specs.declared.planned.Work.TheVariants as work
 use Rattle.sql_values.specs.declared.places.LockMode.TheVariants.{Exclusive}
 use Rattle.stmt_plan.specs.Inserts.{key_name, rows_of}
-use Rattle.stmt_plan.specs.Plans.{keeps_key, mode_of}
+use Rattle.stmt_plan.specs.Plans.{IsPlan, items_of, keeps_key, limit_of, mode_of, work_of}
 use Rattle.stmt_plan.specs.Plans.{IsTable as IsDefinition}
 use Rattle.stmt_plan.specs.Refusals.{refusal}
-use Rattle.stmt_plan.specs.Selects.{known_name, picks_of, known_as}
+use Rattle.stmt_plan.specs.Selects.{called, cell_column, items_by, known_as, known_name, most_of, order_of, picks_of, skip_of, work_by}
 use Rattle.stmt_plan.specs.Settings.{settings}
 use Rattle.plain_tables.specs.Inserts.{put_all, without}
+use Rattle.front_rows.specs.Merging.{arranged}
 use Rattle.plain_tables.specs.Partitions.{rows_in}
-use Rattle.plain_tables.specs.Rows.{Row, key_of, kept, FitsColumns}
-use Rattle.plain_tables.specs.Statements.{Writes, Puts, Dels}
+use Rattle.plain_tables.specs.Rows.{Row, key_of, kept}
+use Rattle.plain_tables.specs.Statements.{Writes, Puts, Dels, rows_by}
 use Rattle.plain_tables.specs.Updates.{changed}
-use Rattle.plain_tables.proofs.Members.{all_of, all_by, at_front, behind, kept_passes}
+use Rattle.plain_tables.proofs.Members.{at_front, behind}
 use Rattle.plain_tables.proofs.Scanned.{own_key}
 use Rattle.branch_store.specs.declared.branch.Change.{Change}
 use Rattle.branch_store.specs.declared.branch.Stage.TheVariants.{Active}
@@ -50,13 +57,13 @@ use Rattle.txn_phases.specs.declared.phase.Progress.{Progress}
 use Rattle.txn_phases.specs.declared.phase.Target.{Target}
 use Rattle.txn_phases.specs.declared.requests.Ask.{Ask}
 use Rattle.txn_phases.specs.Deeds.{keys_in, news_in, placed, placed_key}
-use Rattle.txn_phases.specs.Phases.{concluded, ends, gives_up, is_shaped, rows_if, scans_of, writes_by}
+use Rattle.txn_phases.specs.Phases.{concluded, ends, fits_scan, found_if, gives_up, scans_of, writes_by}
 use Rattle.front_core.specs.declared.event.TxNo.{TxNo}
 use Rattle.front_core.specs.Asked.{bigints, owns, parts_asked, pushed}
 use Rattle.front_core.specs.Core.{table_named}
-use Rattle.front_core.specs.Jobs.{branch_at, branches_of, job_of, kinds_of, scan_for, targets_for}
+use Rattle.front_core.specs.Jobs.{branch_at, branches_of, deed_by, job_of, kinds_of, scan_for, targets_for}
 use Rattle.front_core.proofs.Parting.{some_bigint, bigint_some, bigint_fits, are_pruned}
-use Rattle.plain_sessions.specs.Exec.{Tables, with_rows}
+use Rattle.plain_sessions.specs.Exec.{Tables, rows_selected, with_rows}
 use Rattle.plain_sessions.specs.Held.{CanBeServed, stores_of, tables_at}
 use Rattle.phase_law.specs.Laws.{AreHeld, GoesThrough, IsHeld, StatementsGoThrough}
 use Rattle.phase_law.specs.Through.{Through}
@@ -66,18 +73,19 @@ use Rattle.phase_law.proofs.Branches.{branches_apart, some_branch}
 use Rattle.phase_law.proofs.Endings.{HaveBegun, ends_through, gives_up_through, ends_alone, gives_up_alone}
 use Rattle.phase_law.proofs.Fits.{passes as rule_passes, delete_known, keys_stay, select_known, update_known, where_keeps}
 use Rattle.phase_law.proofs.Few.{few_branches, few_links, few_writes}
-use Rattle.phase_law.proofs.Found.{kept_in}
+use Rattle.phase_law.proofs.Found.{answers_find, answers_fit, asks_of, sums_fit}
 use Rattle.phase_law.proofs.Left.{changes_left, none_left}
 use Rattle.phase_law.proofs.Lists.{is_itself, map_alike}
-use Rattle.phase_law.proofs.Noted.{all_begun, begun, counted}
-use Rattle.phase_law.proofs.Phases.{scanned, same_held}
-use Rattle.phase_law.proofs.RowsFit.{new_rows_fit, new_rows_may_be, rows_are_shaped}
+use Rattle.phase_law.proofs.Noted.{AllFound, all_begun, begun, counted, is_finding}
+use Rattle.phase_law.proofs.Phases.{FitScans, scanned, same_held}
+use Rattle.phase_law.proofs.Scans.{found_of}
+use Rattle.phase_law.proofs.RowsFit.{new_rows_fit, new_rows_may_be}
 use Rattle.phase_law.proofs.Sent.{IsNamed, table_is_named, table_is_small, table_is_sound, asked_links, statement_scans, statement_counts, statement_writes, statement_commits}
 use Rattle.phase_law.proofs.Stages.{Served, holding, no_changes, stores_as}
-use Rattle.phase_law.proofs.Targets.{link_is_there}
+use Rattle.phase_law.proofs.Targets.{link_is_there, targets_are_asked}
 use Rattle.phase_law.proofs.Updated.{changes_fit, changes_have_keys, changes_may_be}
 use Rattle.phase_law.proofs.Ways.{through_more, have_begun, begins_alone, finds_through, writes_through}
-use Rattle.phase_law.proofs.Whole.{Ways, delete_goes, insert_goes, select_goes, update_goes}
+use Rattle.phase_law.proofs.Whole.{Ways, aggregates_go, delete_goes, insert_goes, is_planned, plan_with, select_goes, update_goes}
 use Rattle.phase_law.proofs.Writes.{IsWritten, changes_at, requests_of}
 use Rattle.phase_law.proofs.WritesServed.{AreDone}
 
@@ -134,13 +142,13 @@ singles_end test (k ∷ xs) fits = by (test k) (singles_end test xs (λ z c. fit
 
 -- WHAT THE SCANS FIND
 
-answers_twice : {A : Type 0} (f : A → List (List Value)) (xs : List A) → map (λ x. answer.Rows (f x)) xs ≡ map (λ rows. answer.Rows rows) (map f xs)
-answers_twice f [] = refl
-answers_twice f (x ∷ xs) = ap (λ l. answer.Rows (f x) ∷ l) (answers_twice f xs)
-
-counted_flat : (f : Target → List (List Value)) (targets : List Target) → counted targets (map f targets) ≡ flat_map (λ (t : Target). rows_if t.counts (f t)) targets
+counted_flat : (f : Target → LinkAnswer) (targets : List Target) → counted targets (map f targets) ≡ flat_map (λ (t : Target). found_if t.counts (f t)) targets
 counted_flat f [] = refl
-counted_flat f (t ∷ targets) = ap (λ l. rows_if t.counts (f t) ++ l) (counted_flat f targets)
+counted_flat f (t ∷ targets) = ap (λ l. found_if t.counts (f t) ++ l) (counted_flat f targets)
+
+each_of : (P : LinkAnswer → Type 0) (f : Target → LinkAnswer) (targets : List Target) → ((t : Target) → Contains targets t → P (f t)) → AllByRecursion P (map f targets)
+each_of P f [] all = tt
+each_of P f (t ∷ targets) all = (all t (at_front t targets), each_of P f targets (λ u c. all u (behind t u targets c)))
 
 no_parts : {A B : Type 0} (f : A → B) (xs : List A) → [] ≡ map f xs → xs ≡ []
 no_parts f [] h = refl
@@ -179,32 +187,37 @@ module _ (catalog : View) (tables : Tables) (n : ℕ) (tx : TxNo) (number : ℕ)
   pub pruned : IsPruned table.rule (singles test) (parts_asked table.def table.rule s)
   pruned = are_pruned table.rule test (singles test) (served.tables number table named.at).rule (singles_end test bigints (λ k c. bigint_fits k c)) (singles_are test)
 
-  -- the rows of a link's partition that the condition keeps
-  abbrev rows_at : Target → List Row
-  rows_at t = kept_in table.def table.rule (tables number) (pushed table.def s) t.part
+  -- what a partition answers
+  abbrev answer_in : ℕ → LinkAnswer
+  answer_in p = found_of table.def (scan_for table.def s) (rows_in table.def table.rule p (tables number))
+
+  -- and so does each of its links
+  abbrev answer_at : Target → LinkAnswer
+  answer_at t = answer_in t.part
+
+  pub planned : IsPlan number table.def table.rule s (plan_with number table s (singles test))
+  planned = is_planned number table s (singles test) (singles_are test) pruned
 
   -- WITH BRANCHES
 
   -- the job once its scans were answered
   abbrev found_job : Job
-  found_job = scanned (begun job) (map rows_at asked)
+  found_job = scanned (begun job) (map answer_at asked)
 
   abbrev open_at : (ℕ → List Change) → List Store
   open_at changes = stores_as servers (tables_at catalog tables) (holding n (all_begun branches) Active changes)
 
-  found_parts : counted asked (map rows_at asked) ≡ map (kept_in table.def table.rule (tables number) (pushed table.def s)) (parts_asked table.def table.rule s)
-  found_parts =
-      counted_flat rows_at asked ∙ statement_counts catalog tables n tx number table s served held is passes (kept_in table.def table.rule (tables number) (pushed table.def s))
+  found_parts : counted asked (map answer_at asked) ≡ map answer_in (parts_asked table.def table.rule s)
+  found_parts = counted_flat answer_at asked ∙ statement_counts catalog tables n tx number table s served held is passes answer_in
 
-  shaped_rows : (targets : List Target) → AllByRecursion (λ rows. list_all (is_shaped (kinds_of table.def)) rows ≡ true) (map rows_at targets)
-  shaped_rows [] = tt
-  shaped_rows (t ∷ targets) = (
-    rows_are_shaped table.def (rows_at t)
-        (all_by (FitsColumns table.def) (rows_at t) (λ row c.
-        all_of (FitsColumns table.def) (tables number) row (held number table named.at).fit
-        (kept_passes _ (tables number) row (kept_passes _ (rows_in table.def table.rule t.part (tables number)) row c).0).0)),
-    shaped_rows targets,
-  )
+  all_found : AllFound (map answer_at asked)
+  all_found = each_of (λ a. is_finding a ≡ true) answer_at asked
+      (λ t c. answers_find table.def (items_of s) (limit_of table.def s) (kept table.def (pushed table.def s) (rows_in table.def table.rule t.part (tables number))))
+
+  all_fit : FitScans (begun job) (map answer_at asked)
+  all_fit = each_of (λ a. fits_scan (deed_by table.def table.rule (work_of table.def s)) (kinds_of table.def) a ≡ true) answer_at asked
+      (λ t c. answers_fit number table (tables number) sound (held number table named.at).rows_of (held number table named.at).fit s (singles test) passes planned t.part
+      (targets_are_asked (mode_of s) table.parts (parts_asked table.def table.rule s) t c))
 
   module _ (first : Target) (rest : List Target) (some : asked ≡ first ∷ rest) where
     some_asked : 0 < length asked
@@ -233,14 +246,11 @@ module _ (catalog : View) (tables : Tables) (n : ℕ) (tx : TxNo) (number : ℕ)
     have : HaveBegun servers found_job
     have = have_begun servers branches found_job refl apart some_branches few_open
 
-    scans : Served n (stores_as servers (tables_at catalog tables) (holding n branches Active no_changes)) (scans_of (scan_for table.def s) asked) (map (λ rows. answer.Rows rows) (map rows_at asked))
+    scans : Served n (stores_as servers (tables_at catalog tables) (holding n branches Active no_changes)) (scans_of (scan_for table.def s) asked) (map answer_at asked)
         (stores_as servers (tables_at catalog tables) (holding n branches Active no_changes))
-    scans =
-        subst (λ answers. Served n (stores_as servers (tables_at catalog tables) (holding n branches Active no_changes)) (scans_of (scan_for table.def s) asked) answers
-        (stores_as servers (tables_at catalog tables) (holding n branches Active no_changes))) (answers_twice rows_at asked)
-        (statement_scans catalog tables n tx number table s served held is passes)
+    scans = statement_scans catalog tables n tx number table s served held is passes
 
-    with_branches : Ways catalog tables n tx number table s sound (held number table named.at).rows_of passes (singles test) (singles_are test) pruned found_job (open_at no_changes) Committed
+    with_branches : Ways catalog tables n tx number table s sound (held number table named.at).rows_of (held number table named.at).fit passes (singles test) (singles_are test) pruned found_job (open_at no_changes) Committed
     with_branches = record {
       deed_is = refl;
       targets_are = refl;
@@ -256,7 +266,7 @@ module _ (catalog : View) (tables : Tables) (n : ℕ) (tx : TxNo) (number : ℕ)
           through_more 3 n false (open_at no_changes) p.0 p.1 (stores_of catalog tables) RolledBack o
           (through_more 2 n false (open_at no_changes) p.0 p.1 (stores_of catalog tables) RolledBack o (through_more 1 n false (open_at no_changes) p.0 p.1 (stores_of catalog tables) RolledBack o one));
       begun = λ last h o through.
-          finds_through 4 n servers (tables_at catalog tables) job (map rows_at asked) last h o apart some_branches few_open scans (shaped_rows asked) (length-map asked rows_at) some_asked few_asked through;
+          finds_through 4 n servers (tables_at catalog tables) job (map answer_at asked) last h o apart some_branches few_open scans all_found all_fit (length-map asked answer_at) some_asked few_asked through;
       stays = λ h. cc;
     }
 
@@ -285,16 +295,16 @@ module _ (catalog : View) (tables : Tables) (n : ℕ) (tx : TxNo) (number : ℕ)
 
     no_part : parts_asked table.def table.rule s ≡ []
     no_part =
-        no_parts (kept_in table.def table.rule (tables number) (pushed table.def s)) (parts_asked table.def table.rule s)
-        (ap (λ ts. flat_map (λ (t : Target). rows_if t.counts (kept_in table.def table.rule (tables number) (pushed table.def s) t.part)) ts) (sym none)
-        ∙ statement_counts catalog tables n tx number table s served held is passes (kept_in table.def table.rule (tables number) (pushed table.def s)))
+        no_parts answer_in (parts_asked table.def table.rule s)
+        (ap (λ ts. flat_map (λ (t : Target). found_if t.counts (answer_in t.part)) ts) (sym none)
+        ∙ statement_counts catalog tables n tx number table s served held is passes answer_in)
 
-    alone : Ways catalog tables n tx number table s sound (held number table named.at).rows_of passes (singles test) (singles_are test) pruned job (stores_of catalog tables) Alone
+    alone : Ways catalog tables n tx number table s sound (held number table named.at).rows_of (held number table named.at).fit passes (singles test) (singles_are test) pruned job (stores_of catalog tables) Alone
     alone = record {
       deed_is = refl;
       targets_are = refl;
       scan_is = refl;
-      found_is = ap (map (kept_in table.def table.rule (tables number) (pushed table.def s))) (sym no_part);
+      found_is = ap (map answer_in) (sym no_part);
       ended = λ o. ends_alone 4 n (stores_of catalog tables) job o no_branch;
       given_up = λ o. gives_up_alone 4 n (stores_of catalog tables) job o no_branch;
       begun = λ last h o through.
@@ -326,7 +336,7 @@ module _ (catalog : View) (tables : Tables) (n : ℕ) (tx : TxNo) (number : ℕ)
     pub job_there : Job
     pub stores : List Store
     pub how : Ending
-    pub ways : Ways catalog tables n tx number table s sound (held number table named.at).rows_of passes (singles test) (singles_are test) pruned job_there stores how
+    pub ways : Ways catalog tables n tx number table s sound (held number table named.at).rows_of (held number table named.at).fit passes (singles test) (singles_are test) pruned job_there stores how
     pub written : (w : ℕ → Writes) (left : List Row) → IsWritten table.def table.rule (owns table.rule test) (tables number) w left → mode_of s ≡ Exclusive → (o : Outcome)
         → Through 4 n false stores (writes_by job_there o (requests_of (key_name table.def) asked w)) (stores_of catalog (with_rows tables number left)) how o
 
@@ -360,15 +370,47 @@ module _ (catalog : View) (tables : Tables) (n : ℕ) (tx : TxNo) (number : ℕ)
   abbrev asked_are : (s : Statement) → AreKeys (asked_keys s) (keeps_key table.def (pushed table.def s))
   asked_are s = singles_are (keeps_key table.def (pushed table.def s))
 
-  select_through : (select : Select) → IsOn (statement.Select select) → GoesThrough catalog tables n tx number table (statement.Select select)
-  select_through select on =
+  -- the table under the statement's name of it
+  abbrev known : Select → TableDef
+  known select = known_as table.def select.tab
+
+  -- what a SELECT of these columns makes of rows
+  abbrev selected_with : Select → SelectItems → Selected
+  selected_with select i = record {
+    picks = record { table = known_name select.tab; picks = picks_of (known select) i };
+    order = order_of (known select) select.order;
+    skip = skip_of select.limit;
+    most = most_of select.limit;
+  }
+
+  columns_through : (select : Select) (i : SelectItems) → select.items ≡ i → items_by i ≡ scan.All → work_by (known select) select i ≡ work.Select (selected_with select i)
+      → rows_selected (known select) select rows i ≡ rows_by (known select) select rows → IsOn (statement.Select select) → GoesThrough catalog tables n tx number table (statement.Select select)
+  columns_through select i are all is found on =
       let s = statement.Select select in
       let here = comes catalog tables n tx number table s served held on.0 on.1 in
-      select_goes catalog tables n tx number table s (sound catalog tables n tx number table s served held on.0 on.1) (rows_held s on).rows_of on.1 (asked_keys s) (asked_are s)
-      (pruned catalog tables n tx number table s served held on.0 on.1)
-      (record { table = known_name select.tab; picks = picks_of (known_as table.def select.tab) select.items }) refl
-      (where_keeps table.def (known_name select.tab) select.cond rows (select_known table.def select (rule_passes table.def table.rule s on.1).known))
+      select_goes catalog tables n tx number table s (sound catalog tables n tx number table s served held on.0 on.1) (rows_held s on).rows_of (rows_held s on).fit on.1 (asked_keys s) (asked_are s)
+      (pruned catalog tables n tx number table s served held on.0 on.1) (selected_with select i) (ap (work_by (known select) select) are ∙ is) (ap items_by are ∙ all)
+      (ap (rows_selected (known select) select rows) are
+      ∙ (found
+      ∙ ap (arranged (order_of (known select) select.order) (skip_of select.limit) (most_of select.limit))
+      (where_keeps table.def (known_name select.tab) select.cond rows (select_known table.def select (rule_passes table.def table.rule s on.1).known))))
       here.job_there here.stores here.how here.ways
+
+  select_by : (select : Select) (i : SelectItems) → select.items ≡ i → IsOn (statement.Select select) → GoesThrough catalog tables n tx number table (statement.Select select)
+  select_by select items.All are on = columns_through select items.All are refl refl refl on
+  select_by select (items.Columns list) are on = columns_through select (items.Columns list) are refl refl refl on
+  select_by select (items.Aggregates list) are on =
+      let s = statement.Select select in
+      let asks = asks_of table.def table.rule select list are on.1 in
+      let here = comes catalog tables n tx number table s served held on.0 on.1 in
+      aggregates_go catalog tables n tx number table s (sound catalog tables n tx number table s served held on.0 on.1) (rows_held s on).rows_of (rows_held s on).fit on.1 (asked_keys s) (asked_are s)
+      (pruned catalog tables n tx number table s served held on.0 on.1) (map (cell_column (called table.def asks.name)) asks.list) asks.work_is
+      (sums_fit number table rows (sound catalog tables n tx number table s served held on.0 on.1) (rows_held s on).rows_of (rows_held s on).fit select (asked_keys s) list are on.1
+      (planned catalog tables n tx number table s served held on.0 on.1))
+      (ap (rows_selected (known select) select rows) are) here.job_there here.stores here.how here.ways
+
+  select_through : (select : Select) → IsOn (statement.Select select) → GoesThrough catalog tables n tx number table (statement.Select select)
+  select_through select on = select_by select select.items refl on
 
   insert_through : (insert : Insert) → IsOn (statement.Insert insert) → GoesThrough catalog tables n tx number table (statement.Insert insert)
   insert_through insert on =
@@ -377,8 +419,8 @@ module _ (catalog : View) (tables : Tables) (n : ℕ) (tx : TxNo) (number : ℕ)
       let is_sound = sound catalog tables n tx number table s served held on.0 on.1 in
       let news : List Row = rows_of table.def insert.columns insert.rows in
       let small = table_is_small catalog number table served (named catalog tables n tx number table s served held on.0 on.1).at in
-      insert_goes catalog tables n tx number table s is_sound (rows_held s on).rows_of on.1 (asked_keys s) (asked_are s) (pruned catalog tables n tx number table s served held on.0 on.1)
-      news refl refl here.job_there here.stores here.how here.ways
+      insert_goes catalog tables n tx number table s is_sound (rows_held s on).rows_of (rows_held s on).fit on.1 (asked_keys s) (asked_are s) (pruned catalog tables n tx number table s served held on.0 on.1)
+      news refl refl refl here.job_there here.stores here.how here.ways
       (λ o free.
       here.written (λ p. Puts (news_in (map (placed table.def table.rule) news) p)) (put_all table.def rows news)
       (new_rows_are_written table.def table.rule insert rows (rows_held s on).rows_of (new_rows_may_be table.def table.rule insert is_sound small on.1) (new_rows_fit table.def table.rule insert is_sound on.1)) refl o)
@@ -390,8 +432,8 @@ module _ (catalog : View) (tables : Tables) (n : ℕ) (tx : TxNo) (number : ℕ)
       let sets : List SetColumn = settings table.def update.sets in
       let c : Option Cond = pushed table.def s in
       let stay = keys_stay table.def table.rule update on.1 in
-      update_goes catalog tables n tx number table s (sound catalog tables n tx number table s served held on.0 on.1) (rows_held s on).rows_of on.1 (asked_keys s) (asked_are s)
-      (pruned catalog tables n tx number table s served held on.0 on.1) sets refl
+      update_goes catalog tables n tx number table s (sound catalog tables n tx number table s served held on.0 on.1) (rows_held s on).rows_of (rows_held s on).fit on.1 (asked_keys s) (asked_are s)
+      (pruned catalog tables n tx number table s served held on.0 on.1) sets refl refl
       (where_keeps table.def table.def.name update.cond rows (update_known table.def update (rule_passes table.def table.rule s on.1).known)) here.job_there here.stores here.how here.ways
       (λ o news set.
       let puts : List Row = changed (kept table.def c rows) news in
@@ -405,8 +447,8 @@ module _ (catalog : View) (tables : Tables) (n : ℕ) (tx : TxNo) (number : ℕ)
       let here = comes catalog tables n tx number table s served held on.0 on.1 in
       let c : Option Cond = pushed table.def s in
       let gone : List ℤ = map (key_of table.def) (kept table.def c rows) in
-      delete_goes catalog tables n tx number table s (sound catalog tables n tx number table s served held on.0 on.1) (rows_held s on).rows_of on.1 (asked_keys s) (asked_are s)
-      (pruned catalog tables n tx number table s served held on.0 on.1) refl
+      delete_goes catalog tables n tx number table s (sound catalog tables n tx number table s served held on.0 on.1) (rows_held s on).rows_of (rows_held s on).fit on.1 (asked_keys s) (asked_are s)
+      (pruned catalog tables n tx number table s served held on.0 on.1) refl refl
       (where_keeps table.def table.def.name delete.cond rows (delete_known table.def delete (rule_passes table.def table.rule s on.1).known)) here.job_there here.stores here.how here.ways
       (λ o. here.written (λ p. Dels (keys_in (map (placed_key table.rule) gone) p)) (without table.def gone rows) (found_keys_are_written table.def table.rule c rows (own s on) (rows_held s on).rows_of) refl o)
 

@@ -26,7 +26,7 @@ next_is asked place server rest is =
     let both : server ∷ rest ≡ get_or asked place 0 ∷ drop (suc place) asked = is ∙ drop-cons asked place 0 inside in
     record { inside = inside; here = cc; behind = ap (λ k. drop k asked) (add-one place) ∙ cc }
 
-served_once : (n : ℕ) (stores : List Store) (job : Job) (ask : Ask) (a : LinkAnswer) (middle : List Store) (rest : List ℕ) (next : Job × Progress) → ask.server ∷ rest ≡ drop job.heard job.asked → has_form job.phase job.scan.kinds a ≡ true
+served_once : (n : ℕ) (stores : List Store) (job : Job) (ask : Ask) (a : LinkAnswer) (middle : List Store) (rest : List ℕ) (next : Job × Progress) → ask.server ∷ rest ≡ drop job.heard job.asked → has_form job.phase job.deed job.scan.kinds a ≡ true
     → (store : Store) (after : Store) → slice_get stores ask.server ≡ Some store → ◌≡◌ {A = Store × LinkAnswer} (store_step store n ask.request) (after, a) → middle ≡ set stores ask.server after → hears job a ≡ next → Serves n stores job ask middle next
 served_once n stores job ask a middle rest next is form store after there step left goes =
     let at : Next job.asked job.heard ask.server rest = next_is job.asked job.heard ask.server rest is in
@@ -39,7 +39,7 @@ served_once n stores job ask a middle rest next is form store after there step l
       step = step;
       left_is = left;
       server = ap (λ b. cond b (Some (get_or job.asked job.heard 0)) None) within ∙ ap (λ s. Some s) at.here;
-      fits = ap (λ b. b && has_form job.phase job.scan.kinds a) within ∙ form;
+      fits = ap (λ b. b && has_form job.phase job.deed job.scan.kinds a) within ∙ form;
       next_is = goes;
     }
 
@@ -69,7 +69,9 @@ further_read job a server rest at =
 -- so the forms stay
 still_formed : (job next : Job) (answers : List LinkAnswer) → Frame job next → HaveForm job answers → HaveForm next answers
 still_formed job next answers frame formed =
-    subst (λ p. AllByRecursion (λ a. has_form p next.scan.kinds a ≡ true) answers) (sym frame.phase) (subst (λ (s : TableScan). AllByRecursion (λ a. has_form job.phase s.kinds a ≡ true) answers) (sym frame.scan) formed)
+    subst (λ p. AllByRecursion (λ a. has_form p next.deed next.scan.kinds a ≡ true) answers) (sym frame.phase)
+    (subst (λ d. AllByRecursion (λ a. has_form job.phase d next.scan.kinds a ≡ true) answers) (sym frame.deed)
+    (subst (λ (s : TableScan). AllByRecursion (λ a. has_form job.phase job.deed s.kinds a ≡ true) answers) (sym frame.scan) formed))
 
 -- from the answer on that is read next
 pub heard_from : (n : ℕ) (stores : List Store) (job : Job) (asks : List Ask) (answers : List LinkAnswer) (left : List Store) → 0 < length asks → servers_of asks ≡ drop job.heard job.asked → HaveForm job answers → Served n stores asks answers left

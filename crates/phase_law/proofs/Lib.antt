@@ -1,6 +1,7 @@
 pub mod Apart
 pub mod AskedParts
 pub mod Bare
+pub mod BareCalls
 pub mod Branches
 pub mod Commits
 pub mod Dels

@@ -7,7 +7,7 @@ use Rattle.sql_text.specs.declared.link.LinkAnswer.TheVariants as answer
 use Rattle.txn_phases.specs.declared.job.Job.{Job}
 use Rattle.txn_phases.specs.declared.phase.Branch.{Branch}
 use Rattle.txn_phases.specs.declared.phase.Target.{Target}
-use Rattle.txn_phases.specs.Phases.{noted, keeps, hearing, with_branches, with_found, marked, marked_in, rows_if, counts_at, is_begun, is_scanning, is_starting, server_at, begun_of}
+use Rattle.txn_phases.specs.Phases.{noted, keeps, hearing, with_branches, with_found, marked, marked_in, found_if, counts_at, is_begun, is_scanning, is_starting, server_at, begun_of}
 use Rattle.phase_law.proofs.Stages.{noted_all}
 
 -- WHAT AN ANSWER LEAVES AS IT WAS
@@ -17,16 +17,17 @@ pub record Frame (job next : Job) : Type 0 where
   pub heard : next.heard ≡ job.heard + 1
   pub phase : next.phase ≡ job.phase
   pub scan : next.scan ≡ job.scan
+  pub deed : next.deed ≡ job.deed
 
 pub noted_frame : (job : Job) (a : LinkAnswer) → Frame job (noted job a)
-noted_frame job (answer.Done count) = record { asked = refl; heard = refl; phase = refl; scan = refl }
-noted_frame job (answer.Rows rows) = record { asked = refl; heard = refl; phase = refl; scan = refl }
-noted_frame job (answer.Cells cells) = record { asked = refl; heard = refl; phase = refl; scan = refl }
-noted_frame job (answer.Xids xids) = record { asked = refl; heard = refl; phase = refl; scan = refl }
-noted_frame job (answer.Refused number message) = record { asked = refl; heard = refl; phase = refl; scan = refl }
+noted_frame job (answer.Done count) = record { asked = refl; heard = refl; phase = refl; scan = refl; deed = refl }
+noted_frame job (answer.Rows rows) = record { asked = refl; heard = refl; phase = refl; scan = refl; deed = refl }
+noted_frame job (answer.Cells cells) = record { asked = refl; heard = refl; phase = refl; scan = refl; deed = refl }
+noted_frame job (answer.Xids xids) = record { asked = refl; heard = refl; phase = refl; scan = refl; deed = refl }
+noted_frame job (answer.Refused number message) = record { asked = refl; heard = refl; phase = refl; scan = refl; deed = refl }
 
--- the job after so many answers, with these branches and these rows found
-abbrev pub job_at : Job → ℕ → List Branch → List (List (List Value)) → Job
+-- the job after so many answers, with these branches and these answers found
+abbrev pub job_at : Job → ℕ → List Branch → List LinkAnswer → Job
 job_at job heard branches found = record job { heard = heard; branches = branches; found = found }
 
 -- ALL WAS DONE
@@ -115,61 +116,66 @@ started_noted job answers starts done none so_many =
     let sum : job.heard + length answers ≡ length answers = omega arith in
     starts_on job [] job.branches answers starts done none refl so_many ∙ ap (λ k. job_at job k (all_begun job.branches) job.found) sum
 
--- ROWS ARE FOUND
+-- ROWS AND AGGREGATES ARE FOUND
 
--- the rows of the links that count, in order
-abbrev pub counted : List Target → List (List (List Value)) → List (List (List Value))
+-- rows, or aggregates
+abbrev pub is_finding : LinkAnswer → Bool
+is_finding (answer.Rows rows) = true
+is_finding (answer.Cells cells) = true
+is_finding _ = false
+
+abbrev pub AllFound : List LinkAnswer → Type 0
+AllFound answers = AllByRecursion (λ a. is_finding a ≡ true) answers
+
+-- the answers of the links that count, in order
+abbrev pub counted : List Target → List LinkAnswer → List LinkAnswer
 counted [] found = []
 counted (t ∷ targets) [] = []
-counted (t ∷ targets) (rows ∷ found) = rows_if t.counts rows ++ counted targets found
-
--- where the rows are a function of the link
-counted_by : (rows : Target → List (List Value)) (t : Target) (targets : List Target) (b : Bool) → counted targets (map rows targets) ≡ map rows (filter (λ (t : Target). t.counts) targets)
-    → rows_if b (rows t) ++ counted targets (map rows targets) ≡ map rows (cond b (t ∷ filter (λ (t : Target). t.counts) targets) (filter (λ (t : Target). t.counts) targets))
-counted_by rows t targets true rest = ap (λ (l : List (List (List Value))). rows t ∷ l) rest
-counted_by rows t targets false rest = rest
-
-pub counted_of : (rows : Target → List (List Value)) (targets : List Target) → counted targets (map rows targets) ≡ map rows (filter (λ (t : Target). t.counts) targets)
-counted_of rows [] = refl
-counted_of rows (t ∷ targets) = counted_by rows t targets t.counts (counted_of rows targets)
+counted (t ∷ targets) (a ∷ found) = found_if t.counts a ++ counted targets found
 
 counts_next : (before : List Target) (t : Target) (targets : List Target) → counts_at (before ++ t ∷ targets) (length before) ≡ t.counts
 counts_next [] t targets = refl
 counts_next (u ∷ before) t targets = counts_next before t targets
 
-rows_noted : (job : Job) (rows : List (List Value)) → is_starting job.phase ≡ false → is_scanning job.phase ≡ true → noted job (answer.Rows rows) ≡ job_at job (job.heard + 1) job.branches (job.found ++ rows_if (counts_at job.targets job.heard) rows)
-rows_noted job rows later scans =
-    ap (λ b. with_found (hearing (with_branches job (marked_in b job.heard (answer.Rows rows) job.branches))) (rows_if (is_scanning job.phase && counts_at job.targets job.heard) rows)) later
-    ∙ ap (λ b. with_found (hearing job) (rows_if (b && counts_at job.targets job.heard) rows)) scans
+kept_found : (server : ℕ) (counts : Bool) (a : LinkAnswer) (job : Job) → is_finding a ≡ true → keeps server counts a job ≡ with_found job (found_if counts a)
+kept_found server counts (answer.Rows rows) job finds = refl
+kept_found server counts (answer.Cells cells) job finds = refl
+kept_found server counts (answer.Done count) job finds = let no : ⊥ = cc in absurd no
+kept_found server counts (answer.Xids xids) job finds = let no : ⊥ = cc in absurd no
+kept_found server counts (answer.Refused number message) job finds = let no : ⊥ = cc in absurd no
 
-abbrev all_rows : List (List (List Value)) → List LinkAnswer
-all_rows found = map (λ rows. answer.Rows rows) found
+found_noted : (job : Job) (a : LinkAnswer) → is_starting job.phase ≡ false → is_scanning job.phase ≡ true → is_finding a ≡ true
+    → noted job a ≡ job_at job (job.heard + 1) job.branches (job.found ++ found_if (counts_at job.targets job.heard) a)
+found_noted job a later scans finds =
+    kept_found (server_at job.asked job.heard) _ a _ finds
+    ∙ ap (λ b. with_found (hearing (with_branches job (marked_in b job.heard a job.branches))) (found_if (is_scanning job.phase && counts_at job.targets job.heard) a)) later
+    ∙ ap (λ b. with_found (hearing job) (found_if (b && counts_at job.targets job.heard) a)) scans
 
 -- from the links on that stand behind those before
-found_on : (job : Job) (before targets : List Target) (found : List (List (List Value))) → is_starting job.phase ≡ false → is_scanning job.phase ≡ true → job.heard ≡ length before → job.targets ≡ before ++ targets → length found ≡ length targets
-    → noted_all job (all_rows found) ≡ job_at job (job.heard + length found) job.branches (job.found ++ counted targets found)
-found_on job before [] [] later scans at is so_many =
+found_on : (job : Job) (before targets : List Target) (found : List LinkAnswer) → is_starting job.phase ≡ false → is_scanning job.phase ≡ true → AllFound found → job.heard ≡ length before → job.targets ≡ before ++ targets → length found ≡ length targets
+    → noted_all job found ≡ job_at job (job.heard + length found) job.branches (job.found ++ counted targets found)
+found_on job before [] [] later scans finds at is so_many =
     let same : job.heard + 0 ≡ job.heard = omega arith in
     ap (λ k. job_at job k job.branches job.found) (sym same) ∙ ap (λ l. job_at job (job.heard + 0) job.branches l) (sym (append-nil job.found))
-found_on job before [] (rows ∷ found) later scans at is so_many = let no : ⊥ = omega arith in absurd no
-found_on job before (t ∷ targets) [] later scans at is so_many = let no : ⊥ = omega arith in absurd no
-found_on job before (t ∷ targets) (rows ∷ found) later scans at is so_many =
-    let here : List (List (List Value)) = rows_if t.counts rows in
+found_on job before [] (a ∷ found) later scans finds at is so_many = let no : ⊥ = omega arith in absurd no
+found_on job before (t ∷ targets) [] later scans finds at is so_many = let no : ⊥ = omega arith in absurd no
+found_on job before (t ∷ targets) (a ∷ found) later scans (finds, all) at is so_many =
+    let here : List LinkAnswer = found_if t.counts a in
     let next : Job = job_at job (job.heard + 1) job.branches (job.found ++ here) in
     let counts : counts_at job.targets job.heard ≡ t.counts = ap (λ k. counts_at job.targets k) at ∙ (ap (λ l. counts_at l (length before)) is ∙ counts_next before t targets) in
-    let step : noted job (answer.Rows rows) ≡ next = rows_noted job rows later scans ∙ ap (λ b. job_at job (job.heard + 1) job.branches (job.found ++ rows_if b rows)) counts in
+    let step : noted job a ≡ next = found_noted job a later scans finds ∙ ap (λ b. job_at job (job.heard + 1) job.branches (job.found ++ found_if b a)) counts in
     let more : List Target = before ++ t ∷ [] in
     let heard : job.heard + 1 ≡ length more = omega (arith, length-append before (t ∷ [])) in
     let so_far : job.targets ≡ more ++ targets = is ∙ sym (append_assoc before (t ∷ []) targets) in
     let rest : length found ≡ length targets = omega arith in
     let sum : (job.heard + 1) + length found ≡ job.heard + suc (length found) = omega arith in
-    ap (λ j. noted_all j (all_rows found)) step
-    ∙ (found_on next more targets found later scans heard so_far rest
+    ap (λ j. noted_all j found) step
+    ∙ (found_on next more targets found later scans all heard so_far rest
     ∙ (ap (λ k. job_at job k job.branches ((job.found ++ here) ++ counted targets found)) sum ∙ ap (λ l. job_at job (job.heard + suc (length found)) job.branches l) (append_assoc job.found here (counted targets found))))
 
--- where the rows of each link come
-pub scanned_noted : (job : Job) (found : List (List (List Value))) → is_starting job.phase ≡ false → is_scanning job.phase ≡ true → job.heard ≡ 0 → length found ≡ length job.targets
-    → noted_all job (map (λ rows. answer.Rows rows) found) ≡ job_at job (length found) job.branches (job.found ++ counted job.targets found)
-scanned_noted job found later scans none so_many =
+-- where an answer of each link comes
+pub scanned_noted : (job : Job) (found : List LinkAnswer) → is_starting job.phase ≡ false → is_scanning job.phase ≡ true → AllFound found → job.heard ≡ 0 → length found ≡ length job.targets
+    → noted_all job found ≡ job_at job (length found) job.branches (job.found ++ counted job.targets found)
+scanned_noted job found later scans finds none so_many =
     let sum : job.heard + length found ≡ length found = omega arith in
-    found_on job [] job.targets found later scans none refl so_many ∙ ap (λ k. job_at job k job.branches (job.found ++ counted job.targets found)) sum
+    found_on job [] job.targets found later scans finds none refl so_many ∙ ap (λ k. job_at job k job.branches (job.found ++ counted job.targets found)) sum

@@ -1,9 +1,8 @@
 -- Whole phases: their requests are served, heard, and lead on.
 use Rattle.std.proofs.Common.{◌≡◌, ◌<◌, ◌+◌, ℕ, true, false, List, [], ◌∷◌, ◌++◌, map, length, refl, ap, ◌∙◌, subst, cond}
-use Rattle.std.specs.List.{AllByRecursion, list_all}
+use Rattle.std.specs.List.{AllByRecursion}
 use Rattle.std.proofs.Math.Path.{fun_ext}
 use Rattle.std.proofs.lemmas.List.{length-map}
-use Rattle.sql_values.specs.declared.value.Value.{Value}
 use Rattle.sql_text.specs.declared.link.LinkAnswer.{LinkAnswer}
 use Rattle.sql_text.specs.declared.link.LinkAnswer.TheVariants as answer
 use Rattle.sql_text.specs.declared.link.LinkRequest.TheVariants as request
@@ -18,11 +17,11 @@ use Rattle.txn_phases.specs.declared.phase.Branch.{Branch}
 use Rattle.txn_phases.specs.declared.phase.Phase.{Phase}
 use Rattle.txn_phases.specs.declared.phase.Phase.TheVariants as phase
 use Rattle.txn_phases.specs.declared.requests.Ask.{Ask}
-use Rattle.txn_phases.specs.Phases.{asking, concluded, decides, entering, follows, is_begun, is_done, is_rows, is_scanning, is_shaped, is_starting, leaves, scans_of, servers_of}
+use Rattle.txn_phases.specs.Phases.{asking, concluded, decides, entering, follows, fits_scan, is_begun, is_done, is_scanning, is_starting, leaves, scans_of, servers_of}
 use Rattle.phase_law.specs.Through.{Heard}
 use Rattle.phase_law.proofs.Apart.{AreApart, to_all}
 use Rattle.phase_law.proofs.Heard.{heard_all}
-use Rattle.phase_law.proofs.Noted.{AllDone, all_begun, begun, counted, dones, dones_done, job_at, plainly_noted, scanned_noted, started_noted}
+use Rattle.phase_law.proofs.Noted.{AllDone, AllFound, all_begun, begun, counted, dones, dones_done, job_at, plainly_noted, scanned_noted, started_noted}
 use Rattle.phase_law.proofs.Stages.{HaveForm, Served, branch_there, holding, no_branches, no_changes, noted_all, stores_as}
 use Rattle.phase_law.proofs.Words.{commits_all, ends, prepares, rolls_all, starts, tables_after}
 
@@ -37,11 +36,15 @@ done_form (answer.Refused number message) done = let no : ⊥ = cc in absurd no
 
 pub dones_form : (job : Job) (answers : List LinkAnswer) → is_scanning job.phase ≡ false → AllDone answers → HaveForm job answers
 dones_form job [] other all = tt
-dones_form job (a ∷ answers) other (done, all) = (ap (λ b. cond b (is_rows job.scan.kinds a) (is_done a)) other ∙ done_form a done, dones_form job answers other all)
+dones_form job (a ∷ answers) other (done, all) = (ap (λ b. cond b (fits_scan job.deed job.scan.kinds a) (is_done a)) other ∙ done_form a done, dones_form job answers other all)
 
-pub rows_form : (job : Job) (found : List (List (List Value))) → is_scanning job.phase ≡ true → AllByRecursion (λ rows. list_all (is_shaped job.scan.kinds) rows ≡ true) found → HaveForm job (map (λ rows. answer.Rows rows) found)
-rows_form job [] scans all = tt
-rows_form job (rows ∷ found) scans (shaped, all) = (ap (λ b. cond b (list_all (is_shaped job.scan.kinds) rows) false) scans ∙ shaped, rows_form job found scans all)
+-- each answer is one that the scans of the job may have
+abbrev pub FitScans : Job → List LinkAnswer → Type 0
+FitScans job answers = AllByRecursion (λ a. fits_scan job.deed job.scan.kinds a ≡ true) answers
+
+scans_form : (job : Job) (found : List LinkAnswer) → is_scanning job.phase ≡ true → FitScans job found → HaveForm job found
+scans_form job [] scans all = tt
+scans_form job (a ∷ found) scans (fits, all) = (ap (λ b. cond b (fits_scan job.deed job.scan.kinds a) (is_done a)) scans ∙ fits, scans_form job found scans all)
 
 -- PHASES
 
@@ -64,17 +67,16 @@ pub put_phase : (n : ℕ) (stores : List Store) (job : Job) (o : Outcome) (asks 
 put_phase n stores job o asks answers left served done some = plain_phase n stores job (phase.Putting o) asks answers left refl refl served done some
 
 -- the job after its scans
-abbrev pub scanned : Job → List (List (List Value)) → Job
+abbrev pub scanned : Job → List LinkAnswer → Job
 scanned job found = job_at (entering job phase.Scanning (servers_of (scans_of job.scan job.targets))) (length found) job.branches (counted job.targets found)
 
--- each link's rows are found
-pub scan_phase : (n : ℕ) (stores : List Store) (job : Job) (found : List (List (List Value))) (left : List Store) → Served n stores (scans_of job.scan job.targets) (map (λ rows. answer.Rows rows) found) left
-    → AllByRecursion (λ rows. list_all (is_shaped job.scan.kinds) rows ≡ true) found → length found ≡ length job.targets → 0 < length job.targets
-    → Heard n stores (asking job phase.Scanning (scans_of job.scan job.targets)).0 (scans_of job.scan job.targets) left (concluded (scanned job found))
-scan_phase n stores job found left served shaped so_many some =
+-- each link's answer is found
+pub scan_phase : (n : ℕ) (stores : List Store) (job : Job) (found : List LinkAnswer) (left : List Store) → Served n stores (scans_of job.scan job.targets) found left → AllFound found → FitScans job found → length found ≡ length job.targets
+    → 0 < length job.targets → Heard n stores (asking job phase.Scanning (scans_of job.scan job.targets)).0 (scans_of job.scan job.targets) left (concluded (scanned job found))
+scan_phase n stores job found left served finds fits so_many some =
     let asks : List Ask = scans_of job.scan job.targets in
     let in_it : Job = entering job phase.Scanning (servers_of asks) in
-    led_on n stores in_it asks (map (λ rows. answer.Rows rows) found) left (scanned job found) served (rows_form in_it found refl shaped) refl refl (rw length-map some) (scanned_noted in_it found refl refl refl so_many)
+    led_on n stores in_it asks found left (scanned job found) served (scans_form in_it found refl fits) refl refl (rw length-map some) (scanned_noted in_it found refl refl finds refl so_many)
 
 module _ (n servers : ℕ) (tables : ℕ → List Table) where
   -- branches begin where there were none

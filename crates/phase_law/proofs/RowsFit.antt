@@ -42,7 +42,8 @@ use Rattle.branch_store.specs.Opening.{is_definition}
 use Rattle.branch_store.proofs.Keys.{rows_have_keys}
 use Rattle.txn_phases.specs.Phases.{is_short, is_shaped}
 use Rattle.front_core.specs.Jobs.{kinds_of}
-use Rattle.phase_law.proofs.Fits.{or_parts, unmapped, passes}
+use Rattle.plain_tables.proofs.Scanned.{both_none, unmapped}
+use Rattle.phase_law.proofs.Fits.{passes}
 use Rattle.phase_law.proofs.Lists.{is_same, is_itself, at_place, place_of, slice_get_there}
 
 -- VALUES
@@ -66,8 +67,8 @@ cell_at row (d ∷ among) [] i c l none at there = absurd (let no : None ≡ Som
 cell_at row (d ∷ among) (k ∷ literals) zero c l none at there =
     let column : d ≡ c = cc in
     let literal : k ≡ l = cc in
-    rw (sym column, sym literal) (or_parts (cell_fault row (d, k)) (row_fault row (zip among literals)) none).0
-cell_at row (d ∷ among) (k ∷ literals) (suc i) c l none at there = cell_at row among literals i c l (or_parts (cell_fault row (d, k)) (row_fault row (zip among literals)) none).1 at there
+    rw (sym column, sym literal) (both_none (cell_fault row (d, k)) (row_fault row (zip among literals)) none).0
+cell_at row (d ∷ among) (k ∷ literals) (suc i) c l none at there = cell_at row among literals i c l (both_none (cell_fault row (d, k)) (row_fault row (zip among literals)) none).1 at there
 
 found_in : (name : List ℕ) (columns : List ColumnDef) (c : ColumnDef) → Contains (option_to_list (find (is_named name) columns)) c → Contains columns c
 found_in name [] c there = nothing c there
@@ -137,7 +138,7 @@ rows_fit : (def : TableDef) (among : List ColumnDef) (row : ℕ) (rows : List (L
 rows_fit def among row [] is within long all counted none = tt
 rows_fit def among row (literals ∷ rows) is within long all counted none =
     let count = counted_first (length literals == length def.columns) (miscounted (length def.columns) (row + 1) rows) row counted in
-    let values = or_parts (row_fault row (zip among literals)) (rows_fault among (row + 1) rows) none in (
+    let values = both_none (row_fault row (zip among literals)) (rows_fault among (row + 1) rows) none in (
       row_fits def is among within row literals (is_same (length literals) (length def.columns) count.0 ∙ sym long) values.0 all,
       rows_fit def among (row + 1) rows is within long all count.1 values.1,
     )

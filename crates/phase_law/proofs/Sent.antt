@@ -5,7 +5,6 @@ use Rattle.std.specs.List.{AllByRecursion, Contains, list_all, list_any, range_w
 use Rattle.std.proofs.lemmas.Bool.{false≢true, and_parts}
 use Rattle.std.proofs.lemmas.Option.{same_Some}
 use Rattle.sql_values.specs.declared.places.LockMode.TheVariants.{Exclusive}
-use Rattle.sql_values.specs.declared.value.Value.{Value}
 use Rattle.part_rules.specs.Placing.{part_count}
 use Rattle.catalog.specs.declared.link.Link.{Link}
 use Rattle.catalog.specs.declared.tables.Table.{Table}
@@ -14,6 +13,7 @@ use Rattle.catalog.specs.Links.{is_ok}
 use Rattle.catalog.specs.Views.{View, table_name}
 use Rattle.catalog.specs.Views.{IsTable as IsConfigured}
 use Rattle.catalog_plan.specs.Plans.{table_of}
+use Rattle.sql_text.specs.declared.link.LinkAnswer.{LinkAnswer}
 use Rattle.sql_text.specs.declared.statement.Statement.{Statement}
 use Rattle.stmt_plan.specs.Inserts.{key_name}
 use Rattle.stmt_plan.specs.Plans.{IsTable, mode_of, keeps_key}
@@ -26,7 +26,7 @@ use Rattle.branch_store.specs.Opening.{is_definition}
 use Rattle.branch_store.specs.Store.{changed_table}
 use Rattle.branch_store.proofs.Sounds.{both_of}
 use Rattle.txn_phases.specs.declared.phase.Target.{Target}
-use Rattle.txn_phases.specs.Phases.{scans_of, rows_if}
+use Rattle.txn_phases.specs.Phases.{scans_of, found_if}
 use Rattle.front_core.proofs.Named.{is_definition as tested_definition}
 use Rattle.front_core.specs.declared.event.TxNo.{TxNo}
 use Rattle.front_core.specs.Asked.{pushed, parts_asked, parts_with, owns}
@@ -36,12 +36,12 @@ use Rattle.plain_sessions.specs.Exec.{Tables, with_rows}
 use Rattle.plain_sessions.specs.Held.{CanBeServed, tables_at}
 use Rattle.phase_law.specs.Laws.{AreHeld}
 use Rattle.phase_law.proofs.Commits.{commit_leaves}
-use Rattle.phase_law.proofs.Fits.{scan_fits, pushed_keeps}
+use Rattle.phase_law.proofs.Fits.{scan_fits, scan_finds}
 use Rattle.phase_law.proofs.Lists.{slice_get_there, into_map}
 use Rattle.phase_law.proofs.Places.{Place, def_there, places_at, defs_by_place, link_is_placed}
 use Rattle.phase_law.proofs.Scans.{scanned, scans_are_served}
 use Rattle.phase_law.proofs.Stages.{stores_as, holding, no_changes, Served}
-use Rattle.phase_law.proofs.Targets.{IsLink, targets_are_links, counting_rows, parts_have_links, links_tests}
+use Rattle.phase_law.proofs.Targets.{IsLink, targets_are_links, counting_answers, parts_have_links, links_tests}
 use Rattle.phase_law.proofs.Writes.{IsWritten, changes_at, requests_of}
 use Rattle.phase_law.proofs.WritesServed.{AreDone, writes_are_served}
 
@@ -118,16 +118,16 @@ module _ (catalog : View) (tables : Tables) (n : ℕ) (tx : TxNo) (number : ℕ)
   pub asked_links : (t : Target) → Contains asked t → IsLink table.parts t
   asked_links t c = targets_are_links (mode_of s) table.parts (parts_asked table.def table.rule s) t c
 
-  -- the scans are answered by what the condition keeps of each partition
+  -- the scans are answered by what they ask of each partition
   pub statement_scans : Served n (stores_as (length catalog.servers) (tables_at catalog tables) (holding n (branches_of catalog tx asked) Active no_changes)) (scans_of (scan_for table.def s) asked)
       (map (scanned table tables number (scan_for table.def s)) asked) (stores_as (length catalog.servers) (tables_at catalog tables) (holding n (branches_of catalog tx asked) Active no_changes))
   statement_scans =
-      scans_are_served catalog tables tx n number table asked (scan_for table.def s) served named.at asked_links (λ t c. scan_fits table s t sound passes) (λ t c. pushed_keeps table s t sound passes)
+      scans_are_served catalog tables tx n number table asked (scan_for table.def s) served named.at asked_links (λ t c. scan_fits table s t sound passes) (λ t c. scan_finds table s t sound passes)
 
-  -- of each partition that is asked the rows of one link count, in the order of the partitions
-  pub statement_counts : (f : ℕ → List (List Value)) → flat_map (λ (t : Target). rows_if t.counts (f t.part)) asked ≡ map f (parts_asked table.def table.rule s)
+  -- of each partition that is asked the answer of one link counts, in the order of the partitions
+  pub statement_counts : (f : ℕ → LinkAnswer) → flat_map (λ (t : Target). found_if t.counts (f t.part)) asked ≡ map f (parts_asked table.def table.rule s)
   statement_counts f =
-      counting_rows (length catalog.servers) (mode_of s) table.parts (parts_asked table.def table.rule s) f (λ p c. parts_have_links (length catalog.servers) table s p (served.tables number table named.at) c)
+      counting_answers (length catalog.servers) (mode_of s) table.parts (parts_asked table.def table.rule s) f (λ p c. parts_have_links (length catalog.servers) table s p (served.tables number table named.at) c)
 
   -- the keys on which the condition may hold
   abbrev test : ℤ → Bool

@@ -28,6 +28,7 @@ use Rattle.catalog.specs.Views.{AreTables, IsTable, part_defs, remote_def, remot
 use Rattle.catalog.proofs.Breaking.{entries_sound}
 use Rattle.catalog.proofs.Options.{PutFrom, each_length, mapped, neither, put_some, there, zipped}
 use Rattle.stmt_plan.specs.Apart.{has_number_key, is_number_kind}
+use Rattle.plain_tables.proofs.Scanned.{unmapped}
 use Rattle.branch_store.specs.Opening.{are_apart, is_definition}
 use Rattle.phase_law.specs.Laws.{ConfigurationsCanBeServed}
 use Rattle.phase_law.proofs.Apart.{joint_all, or_false}
@@ -119,10 +120,6 @@ module _ (s : ℕ) where
       ∙ both_true (list_all is_definition (table_defs s table)) (list_all is_definition (remote_defs s tables)) (table_defined table.def is table.parts) (all_defined tables all)
 
 -- A CONFIGURATION
-
-unmapped : {X Y : Type 0} (f : X → Y) (o : Option X) → option_map f o ≡ None → o ≡ None
-unmapped f None h = refl
-unmapped f (Some x) h = let no : ⊥ = cc in absurd no
 
 none_is_shared : (file : ConfFile) (tables : List Table) → broken file ≡ None → catalog_entries file ≡ Some tables → shared tables ≡ None
 unfolding broken

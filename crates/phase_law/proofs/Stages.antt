@@ -50,4 +50,4 @@ noted_all job (answer ∷ answers) = noted_all (noted job answer) answers
 
 -- each answer has the form of the phase
 abbrev pub HaveForm : Job → List LinkAnswer → Type 0
-HaveForm job answers = AllByRecursion (λ answer. has_form job.phase job.scan.kinds answer ≡ true) answers
+HaveForm job answers = AllByRecursion (λ answer. has_form job.phase job.deed job.scan.kinds answer ≡ true) answers

@@ -18,6 +18,7 @@ use Rattle.catalog.specs.declared.tables.Part.{Part}
 use Rattle.catalog.specs.declared.tables.Table.{Table}
 use Rattle.catalog.specs.Links.{is_ok, are_links, differ}
 use Rattle.catalog.specs.Views.{View, IsTable}
+use Rattle.sql_text.specs.declared.link.LinkAnswer.{LinkAnswer}
 use Rattle.sql_text.specs.declared.statement.Statement.{Statement}
 use Rattle.plain_tables.specs.Partitions.{rows_in}
 use Rattle.plain_tables.proofs.Members.{at_front, behind, either, nothing, in_lists, kept_passes, mapped_from}
@@ -28,7 +29,7 @@ use Rattle.branch_store.specs.Changes.{is_called}
 use Rattle.branch_store.specs.Store.{Store}
 use Rattle.branch_store.specs.Tables as stored
 use Rattle.txn_phases.specs.declared.phase.Target.{Target}
-use Rattle.txn_phases.specs.Phases.{rows_if}
+use Rattle.txn_phases.specs.Phases.{found_if}
 use Rattle.front_core.specs.declared.event.TxNo.{TxNo}
 use Rattle.front_core.specs.Asked.{parts_asked, parts_with}
 use Rattle.front_core.specs.Jobs.{is_ng, written, links_asked, links_at, target_at, part_targets, targets_of, xid_at, branch_at, servers_of, branches_of}
@@ -83,6 +84,10 @@ part_link mode parts p t c =
 
 pub targets_are_links : (mode : LockMode) (parts : List Part) (ps : List ℕ) (t : Target) → Contains (targets_of mode parts ps) t → IsLink parts t
 targets_are_links mode parts ps t c = let at = in_lists (part_targets mode parts) ps t c in (part_link mode parts at.0 t at.2).0
+
+-- and each is one of a partition that is asked
+pub targets_are_asked : (mode : LockMode) (parts : List Part) (ps : List ℕ) (t : Target) → Contains (targets_of mode parts ps) t → Contains ps t.part
+targets_are_asked mode parts ps t c = let at = in_lists (part_targets mode parts) ps t c in subst (Contains ps) (sym (part_link mode parts at.0 t at.2).1) at.1
 
 -- the table of a target, found by its name
 pub record IsThere (catalog : View) (tables : Tables) (number : ℕ) (table : Table) (t : Target) : Type 0 where
@@ -177,33 +182,33 @@ rest_any : (a b : Bool) → a ≡ false → (a || b) ≡ true → b ≡ true
 rest_any true b is any = absurd (false≢true (sym is))
 rest_any false b is any = any
 
--- the rows of a partition, at each of its links whose rows count
-abbrev counted : List (List Value) → Link × Bool → List (List (List Value))
-counted rows x = rows_if x.1 rows
+-- the answer of a partition, at each of its links whose answer counts
+abbrev counted : LinkAnswer → Link × Bool → List LinkAnswer
+counted a x = found_if x.1 a
 
-none_counts : (rows : List (List Value)) (links : List Link) → flat_map (counted rows) (written true links) ≡ []
-none_counts rows [] = refl
-none_counts rows (link ∷ links) = elim (cases_Bool (is_ng link.first)) [
-  | inl ng ↦ rw ng (none_counts rows links)
-  | inr written_to ↦ rw written_to (none_counts rows links)
+none_counts : (a : LinkAnswer) (links : List Link) → flat_map (counted a) (written true links) ≡ []
+none_counts a [] = refl
+none_counts a (link ∷ links) = elim (cases_Bool (is_ng link.first)) [
+  | inl ng ↦ rw ng (none_counts a links)
+  | inr written_to ↦ rw written_to (none_counts a links)
 ]
 
-one_counts : (rows : List (List Value)) (links : List Link) → list_any (λ (l : Link). is_ok l.first) links ≡ true → flat_map (counted rows) (written false links) ≡ rows ∷ []
-one_counts rows [] any = absurd (false≢true any)
-one_counts rows (link ∷ links) any = elim (cases_Bool (is_ng link.first)) [
-  | inl ng ↦ rw ng (one_counts rows links (rest_any (is_ok link.first) (list_any (λ (l : Link). is_ok l.first) links) (ng_is_not_ok link.first ng) any))
+one_counts : (a : LinkAnswer) (links : List Link) → list_any (λ (l : Link). is_ok l.first) links ≡ true → flat_map (counted a) (written false links) ≡ a ∷ []
+one_counts a [] any = absurd (false≢true any)
+one_counts a (link ∷ links) any = elim (cases_Bool (is_ng link.first)) [
+  | inl ng ↦ rw ng (one_counts a links (rest_any (is_ok link.first) (list_any (λ (l : Link). is_ok l.first) links) (ng_is_not_ok link.first ng) any))
   | inr written_to ↦ elim (cases_Bool (is_ok link.first)) [
-    | inl ok ↦ rw (written_to, ok) (ap (λ l. rows ∷ l) (none_counts rows links))
-    | inr filled ↦ rw (written_to, filled) (one_counts rows links (rest_any (is_ok link.first) (list_any (λ (l : Link). is_ok l.first) links) filled any))
+    | inl ok ↦ rw (written_to, ok) (ap (λ l. a ∷ l) (none_counts a links))
+    | inr filled ↦ rw (written_to, filled) (one_counts a links (rest_any (is_ok link.first) (list_any (λ (l : Link). is_ok l.first) links) filled any))
   ]
 ]
 
-not_counted : (rows : List (List Value)) (x : Link × Bool) → x.1 ≡ false → counted rows x ≡ []
-not_counted rows x out = ap (λ b. rows_if b rows) out
+not_counted : (a : LinkAnswer) (x : Link × Bool) → x.1 ≡ false → counted a x ≡ []
+not_counted a x out = ap (λ b. found_if b a) out
 
-one_asked : (mode : LockMode) (rows : List (List Value)) (links : List Link) → list_any (λ (l : Link). is_ok l.first) links ≡ true → flat_map (counted rows) (links_asked mode links) ≡ rows ∷ []
-one_asked Exclusive rows links any = one_counts rows links any
-one_asked Shared rows links any = flat_filter (λ (x : Link × Bool). x.1) (counted rows) (written false links) (λ x c out. not_counted rows x out) ∙ one_counts rows links any
+one_asked : (mode : LockMode) (a : LinkAnswer) (links : List Link) → list_any (λ (l : Link). is_ok l.first) links ≡ true → flat_map (counted a) (links_asked mode links) ≡ a ∷ []
+one_asked Exclusive a links any = one_counts a links any
+one_asked Shared a links any = flat_filter (λ (x : Link × Bool). x.1) (counted a) (written false links) (λ x c out. not_counted a x out) ∙ one_counts a links any
 
 -- a partition of the table, with its links
 pub record HasLinks (servers : ℕ) (parts : List Part) (p : ℕ) : Type 0 where
@@ -211,20 +216,20 @@ pub record HasLinks (servers : ℕ) (parts : List Part) (p : ℕ) : Type 0 where
   pub there : slice_get parts p ≡ Some part
   pub links : are_links servers part.links ≡ true
 
-one_in_part : (servers : ℕ) (mode : LockMode) (parts : List Part) (p : ℕ) (f : ℕ → List (List Value)) → HasLinks servers parts p → flat_map (λ (t : Target). rows_if t.counts (f t.part)) (part_targets mode parts p) ≡ f p ∷ []
+one_in_part : (servers : ℕ) (mode : LockMode) (parts : List Part) (p : ℕ) (f : ℕ → LinkAnswer) → HasLinks servers parts p → flat_map (λ (t : Target). found_if t.counts (f t.part)) (part_targets mode parts p) ≡ f p ∷ []
 one_in_part servers mode parts p f has =
-    flat_map-map (λ (t : Target). rows_if t.counts (f t.part)) (target_at p) (links_asked mode (links_at parts p))
+    flat_map-map (λ (t : Target). found_if t.counts (f t.part)) (target_at p) (links_asked mode (links_at parts p))
     ∙ (ap (λ (o : Option Part). flat_map (counted (f p)) (links_asked mode (option_map_or (λ (q : Part). q.links) o []))) has.there
     ∙ one_asked mode (f p) has.part.links (links_tests servers has.part.links has.links).0)
 
--- of each partition the rows of one link count, in the order of the partitions
-pub counting_rows : (servers : ℕ) (mode : LockMode) (parts : List Part) (ps : List ℕ) (f : ℕ → List (List Value)) → ((p : ℕ) → Contains ps p → HasLinks servers parts p)
-    → flat_map (λ (t : Target). rows_if t.counts (f t.part)) (targets_of mode parts ps) ≡ map f ps
-counting_rows servers mode parts [] f has = refl
-counting_rows servers mode parts (p ∷ ps) f has =
-    flat_map-append (λ (t : Target). rows_if t.counts (f t.part)) (part_targets mode parts p) (targets_of mode parts ps)
-    ∙ (ap (λ l. l ++ flat_map (λ (t : Target). rows_if t.counts (f t.part)) (targets_of mode parts ps)) (one_in_part servers mode parts p f (has p (at_front p ps)))
-    ∙ ap (λ l. f p ∷ l) (counting_rows servers mode parts ps f (λ q c. has q (behind p q ps c))))
+-- of each partition the answer of one link counts, in the order of the partitions
+pub counting_answers : (servers : ℕ) (mode : LockMode) (parts : List Part) (ps : List ℕ) (f : ℕ → LinkAnswer) → ((p : ℕ) → Contains ps p → HasLinks servers parts p)
+    → flat_map (λ (t : Target). found_if t.counts (f t.part)) (targets_of mode parts ps) ≡ map f ps
+counting_answers servers mode parts [] f has = refl
+counting_answers servers mode parts (p ∷ ps) f has =
+    flat_map-append (λ (t : Target). found_if t.counts (f t.part)) (part_targets mode parts p) (targets_of mode parts ps)
+    ∙ (ap (λ l. l ++ flat_map (λ (t : Target). found_if t.counts (f t.part)) (targets_of mode parts ps)) (one_in_part servers mode parts p f (has p (at_front p ps)))
+    ∙ ap (λ l. f p ∷ l) (counting_answers servers mode parts ps f (λ q c. has q (behind p q ps c))))
 
 -- each partition that is asked is one of the table's
 pub parts_have_links : (servers : ℕ) (table : Table) (s : Statement) (p : ℕ) → IsTable servers table → Contains (parts_asked table.def table.rule s) p → HasLinks servers table.parts p

@@ -1,10 +1,7 @@
 -- The ways from one phase to the next, up to where the rows are found and written.
 use Rattle.std.proofs.Common.{◌≡◌, ◌<◌, ◌≤◌, ◌^◌, ℕ, zero, suc, ◌==◌, Bool, true, false, ◌||◌, List, [], ◌∷◌, map, length, refl, sym, ap, ◌∙◌, arith, subst}
-use Rattle.std.specs.List.{AllByRecursion, list_all}
 use Rattle.std.proofs.lemmas.List.{length-map}
-use Rattle.sql_values.specs.declared.value.Value.{Value}
 use Rattle.sql_text.specs.declared.link.LinkAnswer.{LinkAnswer}
-use Rattle.sql_text.specs.declared.link.LinkAnswer.TheVariants as answer
 use Rattle.sql_text.specs.declared.link.LinkRequest.TheVariants as request
 use Rattle.branch_store.specs.declared.branch.Stage.TheVariants.{Active}
 use Rattle.branch_store.specs.Store.{Store}
@@ -17,12 +14,12 @@ use Rattle.txn_phases.specs.declared.phase.Phase.TheVariants as phase
 use Rattle.txn_phases.specs.declared.phase.Progress.{Progress}
 use Rattle.txn_phases.specs.declared.phase.Progress.TheVariants.{Waits, Asks, Decides, Over}
 use Rattle.txn_phases.specs.declared.requests.Ask.{Ask}
-use Rattle.txn_phases.specs.Phases.{asking, begins, begins_by, begun_of, concluded, ends, follows, is_shaped, scans_of, writes_by}
+use Rattle.txn_phases.specs.Phases.{asking, begins, begins_by, begun_of, concluded, ends, follows, scans_of, writes_by}
 use Rattle.phase_law.specs.Through.{Through}
 use Rattle.phase_law.proofs.Apart.{AreApart, among, to_all}
 use Rattle.phase_law.proofs.Endings.{HaveBegun}
-use Rattle.phase_law.proofs.Noted.{AllDone, all_begun, begun, begun_are_begun, with_begun}
-use Rattle.phase_law.proofs.Phases.{put_phase, same_held, scan_phase, scanned, start_phase}
+use Rattle.phase_law.proofs.Noted.{AllDone, AllFound, all_begun, begun, begun_are_begun, with_begun}
+use Rattle.phase_law.proofs.Phases.{FitScans, put_phase, same_held, scan_phase, scanned, start_phase}
 use Rattle.phase_law.proofs.Stages.{Served, holding, no_branches, no_changes, stores_as}
 
 -- more phases may be allowed than there are
@@ -75,10 +72,11 @@ starts_through most n servers tables job last how o apart some few through =
     subst (λ (next : Job × Progress). Through (suc most) n false (stores_as servers tables no_branches) next last how o) (sym (begins_so job job.branches some)) asked
 
 -- the links are scanned, and what is found decides then
-pub scans_through : (most n : ℕ) (stores : List Store) (job : Job) (found : List (List (List Value))) (left last : List Store) (how : Ending) (o : Outcome)
-    → Served n stores (scans_of job.scan job.targets) (map (λ rows. answer.Rows rows) found) left → AllByRecursion (λ rows. list_all (is_shaped job.scan.kinds) rows ≡ true) found → length found ≡ length job.targets → 0 < length job.targets
+pub scans_through : (most n : ℕ) (stores : List Store) (job : Job) (found : List LinkAnswer) (left last : List Store) (how : Ending) (o : Outcome)
+    → Served n stores (scans_of job.scan job.targets) found left → AllFound found → FitScans job found → length found ≡ length job.targets → 0 < length job.targets
     → length job.targets ≤ 2 ^ 35 → Through most n false left (concluded (scanned job found)) last how o → Through (suc most) n false stores (asking job phase.Scanning (scans_of job.scan job.targets)) last how o
-scans_through most n stores job found left last how o served shaped so_many some few through = (rw length-map few, left, concluded (scanned job found), scan_phase n stores job found left served shaped so_many some, through)
+scans_through most n stores job found left last how o served finds fits so_many some few through =
+    (rw length-map few, left, concluded (scanned job found), scan_phase n stores job found left served finds fits so_many some, through)
 
 -- rows are put, where there are any, and the branches end then
 pub writes_through : (most n : ℕ) (stores : List Store) (job : Job) (outcome : Outcome) (asks : List Ask) (answers : List LinkAnswer) (left last : List Store) (how : Ending) (o : Outcome)
@@ -93,13 +91,13 @@ pub begins_alone : (job : Job) → job.branches ≡ [] → ◌≡◌ {A = Job ×
 begins_alone job none = ap (λ l. begins_by job (to_all (λ xid. request.Start xid) l)) none
 
 -- the branches begin and the links are scanned, and what is found decides then
-pub finds_through : (most n servers : ℕ) (tables : ℕ → List Table) (job : Job) (found : List (List (List Value))) (last : List Store) (how : Ending) (o : Outcome) → AreApart servers job.branches → 0 < length job.branches → length job.branches ≤ 2 ^ 35
-    → Served n (stores_as servers tables (holding n job.branches Active no_changes)) (scans_of job.scan job.targets) (map (λ rows. answer.Rows rows) found) (stores_as servers tables (holding n job.branches Active no_changes))
-    → AllByRecursion (λ rows. list_all (is_shaped job.scan.kinds) rows ≡ true) found → length found ≡ length job.targets → 0 < length job.targets → length job.targets ≤ 2 ^ 35
+pub finds_through : (most n servers : ℕ) (tables : ℕ → List Table) (job : Job) (found : List LinkAnswer) (last : List Store) (how : Ending) (o : Outcome) → AreApart servers job.branches → 0 < length job.branches → length job.branches ≤ 2 ^ 35
+    → Served n (stores_as servers tables (holding n job.branches Active no_changes)) (scans_of job.scan job.targets) found (stores_as servers tables (holding n job.branches Active no_changes))
+    → AllFound found → FitScans job found → length found ≡ length job.targets → 0 < length job.targets → length job.targets ≤ 2 ^ 35
     → Through most n false (stores_as servers tables (holding n (all_begun job.branches) Active no_changes)) (concluded (scanned (begun job) found)) last how o
     → Through (suc (suc most)) n false (stores_as servers tables no_branches) (begins job) last how o
-finds_through most n servers tables job found last how o apart some few served shaped so_many links few_links through =
+finds_through most n servers tables job found last how o apart some few served finds fits so_many links few_links through =
     let held : holding n (all_begun job.branches) Active no_changes ≡ holding n job.branches Active no_changes = same_held n job.branches Active no_changes in
     let stores : List Store = stores_as servers tables (holding n job.branches Active no_changes) in
     let goes : Through most n false stores (concluded (scanned (begun job) found)) last how o = subst (λ h. Through most n false (stores_as servers tables h) (concluded (scanned (begun job) found)) last how o) held through in
-    starts_through (suc most) n servers tables job last how o apart some few (scans_through most n stores (begun job) found stores last how o served shaped so_many links few_links goes)
+    starts_through (suc most) n servers tables job last how o apart some few (scans_through most n stores (begun job) found stores last how o served finds fits so_many links few_links goes)

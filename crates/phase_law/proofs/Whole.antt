@@ -1,12 +1,13 @@
 -- A statement goes through its phases to its plain answer.
 use Rattle.std.proofs.Common.{◌≡◌, ℕ, ℤ, Bool, true, false, not, cond, List, [], ◌∷◌, map, length, Option, Some, None, Result, Ok, Err, refl, sym, ap, ◌∙◌, subst, arith}
-use Rattle.std.specs.Prelude.{◌==◌, ◌||◌, slice_get, codes}
-use Rattle.std.specs.List.{list_any}
-use Rattle.std.specs.Option.{option_or}
+use Rattle.std.specs.Prelude.{◌==◌, ◌&&◌, ◌||◌, slice_get, codes}
+use Rattle.std.specs.List.{AllByRecursion, list_any}
+use Rattle.std.specs.Option.{option_map, option_or}
 use Rattle.std.specs.Ordering.{int_eq}
 use Rattle.std.proofs.lemmas.Bool.{false≢true}
 use Rattle.std.proofs.lemmas.Bool.Decides.{nat_tests}
 use Rattle.std.proofs.lemmas.List.{length-map}
+use Rattle.sql_values.specs.declared.literal.Literal.{Literal}
 use Rattle.sql_values.specs.declared.places.Interval.{Interval}
 use Rattle.sql_values.specs.declared.table.TableDef.{TableDef}
 use Rattle.sql_values.specs.declared.value.Value.{Value}
@@ -16,27 +17,40 @@ use Rattle.part_rules.specs.declared.rule.Rule.{Rule}
 use Rattle.part_rules.specs.Pruned.{IsPruned}
 use Rattle.catalog.specs.declared.tables.Table.{Table}
 use Rattle.catalog.specs.Views.{View}
+use Rattle.sql_text.specs.declared.link.LinkAnswer.{LinkAnswer}
 use Rattle.sql_text.specs.declared.link.ScanItems.TheVariants as scan
 use Rattle.sql_text.specs.declared.statement.Statement.{Statement}
 use Rattle.sql_text.specs.declared.statement.Statement.TheVariants as statement
 use Rattle.stmt_plan.specs.declared.fault.RowFault.{RowFault}
+use Rattle.stmt_plan.specs.declared.planned.AnswerColumns.{AnswerColumns}
+use Rattle.stmt_plan.specs.declared.planned.AnswerColumns.TheVariants as columns
+use Rattle.stmt_plan.specs.declared.planned.CellColumn.{CellColumn}
 use Rattle.stmt_plan.specs.declared.planned.Pick.{Pick}
 use Rattle.stmt_plan.specs.declared.planned.Picks.{Picks}
+use Rattle.stmt_plan.specs.declared.planned.Selected.{Selected}
 use Rattle.stmt_plan.specs.declared.planned.Plan.{Plan}
 use Rattle.stmt_plan.specs.declared.planned.SetColumn.{SetColumn}
+use Rattle.stmt_plan.specs.declared.planned.Work.{Work}
 use Rattle.stmt_plan.specs.declared.planned.Work.TheVariants as work
 use Rattle.stmt_plan.specs.Inserts.{key_name, rows_of, row_key}
-use Rattle.stmt_plan.specs.Plans.{IsPlan, IsPushed, keeps_key, mode_of, work_of}
+use Rattle.stmt_plan.specs.Plans.{IsPlan, IsPushed, items_of, keeps_key, limit_of, mode_of, work_of}
 use Rattle.stmt_plan.specs.Plans.{IsTable as IsDefinition}
 use Rattle.stmt_plan.specs.Refusals.{refusal}
+use Rattle.stmt_plan.specs.Selects.{aggregates_of}
 use Rattle.plain_tables.specs.Inserts.{first_taken, has_row, put_all, without}
 use Rattle.plain_tables.specs.Partitions.{IsTable}
-use Rattle.plain_tables.specs.Rows.{Row, kept, key_of}
-use Rattle.plain_tables.specs.Statements.{Answer, Duplicate, RowRefused, Done, Found, Writes, Puts, Dels, executed, finished, applied, added_by, changed_by, written, cell_at, cells_of}
+use Rattle.plain_tables.specs.Rows.{Row, FitsColumns, kept, key_of}
+use Rattle.plain_tables.specs.Statements.{Answer, Duplicate, RowRefused, Done, Found, Writes, Puts, Dels, executed, finished, applied, added_by, arranged_by, changed_by, written, cell_at, cells_of}
 use Rattle.plain_tables.specs.Updates.{changed, map_ok, set_rows}
 use Rattle.plain_tables.proofs.Inserted.{same_taken}
 use Rattle.plain_tables.proofs.Scanned.{own_key, statements_are_scans}
-use Rattle.front_rows.specs.Merging.{is_too_large}
+use Rattle.front_rows.specs.Aggregates.{can_merge, merged_cells, merged_results}
+use Rattle.front_rows.specs.Cells.{Cell, cell_text}
+use Rattle.front_rows.specs.Gathering.{all_rows}
+use Rattle.front_rows.specs.Merging.{arranged, is_too_large, key_order, merged_rows}
+use Rattle.front_rows.specs.Sorting.{insert_by, sorted_by}
+use Rattle.merge_law.specs.Merging.{gathered, part_answers}
+use Rattle.merge_law.specs.Merging.{concluded as made_of}
 use Rattle.branch_store.specs.Store.{Store}
 use Rattle.my_messages.specs.declared.reply.Reply.{Reply}
 use Rattle.my_messages.specs.declared.reply.Reply.TheVariants as reply
@@ -56,20 +70,20 @@ use Rattle.txn_phases.specs.declared.phase.Ending.TheVariants.{RolledBack}
 use Rattle.txn_phases.specs.declared.phase.Progress.{Progress}
 use Rattle.txn_phases.specs.declared.phase.Target.{Target}
 use Rattle.txn_phases.specs.declared.requests.Ask.{Ask}
-use Rattle.txn_phases.specs.Deeds.{all_rows, deletes_too_much, is_found, key_order, merged, merged_within, placed, placed_key, placed_keys, taken_key, writes_too_much}
-use Rattle.txn_phases.specs.Phases.{begins, concluded, concluded_by, deleting, deleting_keys, dels_of, ends, gives_up, inserting_by, puts_of, selects, updating, updating_by, writes, writes_by}
-use Rattle.txn_phases.specs.Sorting.{insert_by, sorted_by}
+use Rattle.txn_phases.specs.Deeds.{cells_within, deletes_too_much, found_within, is_found, merged_within, placed, placed_key, placed_keys, taken_key, within, writes_too_much}
+use Rattle.txn_phases.specs.Phases.{begins, concluded, concluded_by, deleting, deleting_keys, dels_of, ends, gives_up, inserting_by, puts_of, tells, updating, updating_by, writes, writes_by}
 use Rattle.front_rows.specs.Comparing.{before}
 use Rattle.front_core.specs.declared.event.TxNo.{TxNo}
 use Rattle.front_core.specs.Asked.{pushed, parts_asked, rising}
 use Rattle.front_core.specs.Core.{is_showable, outcome_told}
-use Rattle.front_core.specs.Jobs.{deed_by, job_of, picks_by, scan_for, targets_for}
+use Rattle.front_core.specs.Jobs.{columns_by, deed_by, job_of, scan_for, targets_for}
 use Rattle.front_core.proofs.Rising.{rising_rises}
-use Rattle.plain_sessions.specs.Exec.{Tables, answer_limit, cell_text, exec_on, is_large, is_long, limit_passed, reply_to, rows_found, with_rows, within_limit, writes_of}
+use Rattle.plain_sessions.specs.Exec.{Tables, answer_limit, exec_on, is_large, is_long, limit_passed, reply_to, rows_found, with_rows, within_limit, writes_of}
 use Rattle.plain_sessions.specs.Held.{stores_of}
 use Rattle.phase_law.specs.Laws.{GoesThrough}
 use Rattle.phase_law.specs.Through.{Through}
-use Rattle.phase_law.proofs.Found.{kept_in, merged_is_kept}
+use Rattle.merge_law.proofs.Merged.{statements_are_merged}
+use Rattle.merge_law.proofs.Ordered.{rows_are_merged}
 
 -- PLAIN TABLES
 
@@ -162,9 +176,9 @@ plan_with number table s keys = record {
   table = number;
   parts = parts_asked table.def table.rule s;
   keys = keys;
-  pushed = scan.All;
+  pushed = items_of s;
   cond = pushed table.def s;
-  limit = None;
+  limit = limit_of table.def s;
   mode = mode_of s;
   work = work_of table.def s;
 }
@@ -175,9 +189,9 @@ is_planned number table s keys are pruned = record {
   table_is = refl;
   parts = pruned;
   keys = are;
-  all_columns = refl;
+  items = refl;
   cond = pushed_is table.def s;
-  no_limit = refl;
+  limit_is = refl;
   mode = refl;
   work_is = refl;
 }
@@ -203,20 +217,28 @@ unfolding put_all
 nothing_put def rows = refl
 
 module _ (catalog : View) (tables : Tables) (n : ℕ) (tx : TxNo) (number : ℕ) (table : Table) (s : Statement) (is : IsDefinition table.def) (whole : IsTable table.def table.rule (tables number))
-    (passes : refusal table.def table.rule s ≡ None) (keys : List Interval) (are : AreKeys keys (keeps_key table.def (pushed table.def s))) (pruned : IsPruned table.rule keys (parts_asked table.def table.rule s)) where
+    (fit : AllByRecursion (FitsColumns table.def) (tables number)) (passes : refusal table.def table.rule s ≡ None) (keys : List Interval) (are : AreKeys keys (keeps_key table.def (pushed table.def s))) (pruned : IsPruned table.rule keys (parts_asked table.def table.rule s)) where
   -- the rows on which the condition holds
   abbrev pub rows_kept : List Row
   rows_kept = kept table.def (pushed table.def s) (tables number)
 
-  -- those of each partition that is asked
-  abbrev pub parts_found : List (List Row)
-  parts_found = map (kept_in table.def table.rule (tables number) (pushed table.def s)) (parts_asked table.def table.rule s)
+  abbrev pub plan : Plan
+  plan = plan_with number table s keys
 
-  executed_so : executed table.def table.rule s (tables number) ≡ applied table.def (tables number) (finished table.def (work_of table.def s) rows_kept)
-  executed_so = statements_are_scans number table.def table.rule s (plan_with number table s keys) (tables number) is whole passes (is_planned number table s keys are pruned)
+  planned : IsPlan number table.def table.rule s plan
+  planned = is_planned number table s keys are pruned
 
-  merged_so : merged table.def.key parts_found ≡ rows_kept
-  merged_so = merged_is_kept table.def table.rule (tables number) (pushed table.def s) keys (parts_asked table.def table.rule s) (own_key table.def is) whole are pruned
+  -- what each partition that is asked answers
+  abbrev pub parts_found : List LinkAnswer
+  parts_found = part_answers table.def table.rule plan (tables number)
+
+  executed_so : executed table.def table.rule s (tables number) ≡ applied table.def (tables number) (finished table.def (work_of table.def s) (arranged_by (work_of table.def s) rows_kept))
+  executed_so = statements_are_scans number table.def table.rule s plan (tables number) is whole passes planned
+
+  -- rows that were found, put together as the statement takes them
+  gathered_so : (w : Work) → work_of table.def s ≡ w → items_of s ≡ scan.All → gathered table.def w parts_found ≡ arranged_by w rows_kept
+  gathered_so w w_is all =
+      ap (λ v. gathered table.def v parts_found) (sym w_is) ∙ (rows_are_merged number table.def table.rule s plan (tables number) is whole planned all ∙ ap (λ v. arranged_by v rows_kept) w_is)
 
   exec_so : (e : Answer × List Row) → executed table.def table.rule s (tables number) ≡ e
       → exec_on table s (tables number) ≡ within_limit table.def (work_of table.def s) (tables number) e (limit_passed table s (tables number) e.0)
@@ -225,7 +247,7 @@ module _ (catalog : View) (tables : Tables) (n : ℕ) (tx : TxNo) (number : ℕ)
   -- where the plain answer is this, and what is left
   goes_so : (how : Ending) (o : Outcome) (r : Reply) (left : List Row) → exec_on table s (tables number) ≡ (r, left)
       → Through 6 n false (stores_of catalog tables) (begins (job_of catalog tx table s)) (stores_of catalog (with_rows tables number left)) how o
-      → outcome_told catalog (picks_by (work_of table.def s)) table.def o ≡ r → (how ≡ RolledBack → left ≡ tables number) → GoesThrough catalog tables n tx number table s
+      → outcome_told catalog (columns_by (work_of table.def s)) table.def o ≡ r → (how ≡ RolledBack → left ≡ tables number) → GoesThrough catalog tables n tx number table s
   goes_so how o r left plainly through told undone = record {
     ending = how;
     outcome = o;
@@ -234,7 +256,7 @@ module _ (catalog : View) (tables : Tables) (n : ℕ) (tx : TxNo) (number : ℕ)
     undone = λ h. ap (λ (e : Reply × List Row). e.1) plainly ∙ undone h;
   }
 
-  -- a job whose scans found these rows, and the ways from there to its end, where it may be committed so
+  -- a job whose scans were answered so, and the ways from there to its end, where it may be committed so
   pub record Ways (j : Job) (stores : List Store) (how : Ending) : Type 0 where
     pub deed_is : j.deed ≡ deed_by table.def table.rule (work_of table.def s)
     pub targets_are : j.targets ≡ targets_for table s
@@ -246,18 +268,16 @@ module _ (catalog : View) (tables : Tables) (n : ℕ) (tx : TxNo) (number : ℕ)
     pub stays : how ≡ RolledBack → ⊥
 
   -- the rows that were found, where they are no more than an answer may have
-  found_within : (j : Job) (stores : List Store) (how : Ending) → Ways j stores how → merged_within j.scan.place j.found ≡ cond (is_too_large rows_kept) None (Some rows_kept)
-  found_within j stores how ways =
-      ap (λ (scan : TableScan). merged_within scan.place j.found) ways.scan_is
-      ∙ ap (λ found. merged_within table.def.key found) ways.found_is
-      ∙ ap (λ found. cond (is_too_large found) None (Some found)) merged_so
+  found_by_key : (j : Job) (stores : List Store) (how : Ending) → merged_rows (key_order table.def.key) 0 None parts_found ≡ rows_kept → Ways j stores how → found_within j.scan.place j.found ≡ within rows_kept
+  found_by_key j stores how merged_so ways =
+      ap (λ (scan : TableScan). found_within scan.place j.found) ways.scan_is ∙ (ap (λ found. found_within table.def.key found) ways.found_is ∙ ap within merged_so)
 
   -- nothing is left of a statement that is given up
   unchanged : stores_of catalog tables ≡ stores_of catalog (with_rows tables number (tables number))
   unchanged = ap (stores_of catalog) (sym (same_rows tables number))
 
   gives_up_goes : (j : Job) (stores : List Store) (how : Ending) (o : Outcome) (r : Reply) → Ways j stores how → concluded j ≡ gives_up j o → exec_on table s (tables number) ≡ (r, tables number)
-      → outcome_told catalog (picks_by (work_of table.def s)) table.def o ≡ r → GoesThrough catalog tables n tx number table s
+      → outcome_told catalog (columns_by (work_of table.def s)) table.def o ≡ r → GoesThrough catalog tables n tx number table s
   gives_up_goes j stores how o r ways concludes plainly told =
       goes_so RolledBack o r (tables number) plainly
       (subst (λ last. Through 6 n false (stores_of catalog tables) (begins (job_of catalog tx table s)) last RolledBack o) unchanged
@@ -265,7 +285,7 @@ module _ (catalog : View) (tables : Tables) (n : ℕ) (tx : TxNo) (number : ℕ)
       told (λ h. refl)
 
   ends_goes : (j : Job) (stores : List Store) (how : Ending) (o : Outcome) (r : Reply) → Ways j stores how → concluded j ≡ ends j o → exec_on table s (tables number) ≡ (r, tables number)
-      → outcome_told catalog (picks_by (work_of table.def s)) table.def o ≡ r → GoesThrough catalog tables n tx number table s
+      → outcome_told catalog (columns_by (work_of table.def s)) table.def o ≡ r → GoesThrough catalog tables n tx number table s
   ends_goes j stores how o r ways concludes plainly told =
       goes_so how o r (tables number) plainly
       (subst (λ last. Through 6 n false (stores_of catalog tables) (begins (job_of catalog tx table s)) last how o) unchanged
@@ -274,7 +294,7 @@ module _ (catalog : View) (tables : Tables) (n : ℕ) (tx : TxNo) (number : ℕ)
 
   -- what is written on the way is left
   writes_goes : (j : Job) (stores : List Store) (how : Ending) (o : Outcome) (r : Reply) (asks : List Ask) (left : List Row) → Ways j stores how → concluded j ≡ writes_by j o asks → exec_on table s (tables number) ≡ (r, left)
-      → Through 4 n false stores (writes_by j o asks) (stores_of catalog (with_rows tables number left)) how o → outcome_told catalog (picks_by (work_of table.def s)) table.def o ≡ r → GoesThrough catalog tables n tx number table s
+      → Through 4 n false stores (writes_by j o asks) (stores_of catalog (with_rows tables number left)) how o → outcome_told catalog (columns_by (work_of table.def s)) table.def o ≡ r → GoesThrough catalog tables n tx number table s
   writes_goes j stores how o r asks left ways concludes plainly written told =
       goes_so how o r left plainly
       (ways.begun (stores_of catalog (with_rows tables number left)) how o (subst (λ (x : Job × Progress). Through 4 n false stores x (stores_of catalog (with_rows tables number left)) how o) (sym concludes) written))
@@ -282,63 +302,132 @@ module _ (catalog : View) (tables : Tables) (n : ℕ) (tx : TxNo) (number : ℕ)
 
   -- SELECT
 
-  module _ (picks : Picks) (w_is : work_of table.def s ≡ work.Select picks) (found_same : rows_found table.def s (tables number) ≡ rows_kept) where
-    found_so : executed table.def table.rule s (tables number) ≡ (Found (map (cells_of picks.picks) rows_kept), tables number)
-    found_so =
-        executed_so ∙ ap (λ w. applied table.def (tables number) (finished table.def w rows_kept)) w_is
-        ∙ ap (λ (l : List Row). let pair : Answer × List Row = (Found (map (cells_of picks.picks) rows_kept), l) in pair) (nothing_put table.def (tables number))
+  module _ (selected : Selected) (w_is : work_of table.def s ≡ work.Select selected) (all : items_of s ≡ scan.All)
+      (found_same : rows_found table.def s (tables number) ≡ arranged selected.order selected.skip selected.most rows_kept) where
+    -- the rows in the statement's order, and cut
+    abbrev rows_told : List Row
+    rows_told = arranged selected.order selected.skip selected.most rows_kept
 
-    large_is : is_large table.def s (rows_found table.def s (tables number)) ≡ (is_too_large rows_kept || not (is_showable (Some picks) (outcome.Found rows_kept)))
-    large_is = ap (is_large table.def s) found_same ∙ ap (λ w. is_too_large rows_kept || not (is_showable (picks_by w) (outcome.Found rows_kept))) w_is
+    abbrev cells_told : List (List Literal)
+    cells_told = map (cells_of selected.picks.picks) rows_told
+
+    abbrev columns_told : Option AnswerColumns
+    columns_told = Some (columns.Picks selected.picks)
+
+    found_so : executed table.def table.rule s (tables number) ≡ (Found cells_told, tables number)
+    found_so =
+        executed_so ∙ ap (λ w. applied table.def (tables number) (finished table.def w (arranged_by w rows_kept))) w_is
+        ∙ ap (λ (l : List Row). let pair : Answer × List Row = (Found cells_told, l) in pair) (nothing_put table.def (tables number))
+
+    large_is : is_large (work_of table.def s) (rows_found table.def s (tables number)) cells_told ≡ (is_too_large rows_told || not (is_showable columns_told (outcome.Found rows_told)))
+    large_is = ap (λ found. is_large (work_of table.def s) found cells_told) found_same ∙ ap (λ w. is_large w rows_told cells_told) w_is
 
     abbrev by_limit : Option (List ℕ) → Reply × List Row
-    by_limit l = within_limit table.def (work_of table.def s) (tables number) (Found (map (cells_of picks.picks) rows_kept), tables number) l
+    by_limit l = within_limit table.def (work_of table.def s) (tables number) (Found cells_told, tables number) l
 
-    large_told : (is_too_large rows_kept || not (is_showable (Some picks) (outcome.Found rows_kept))) ≡ true → exec_on table s (tables number) ≡ (limit_reply (codes "answer"), tables number)
-    large_told large =
-        exec_so (Found (map (cells_of picks.picks) rows_kept), tables number) found_so
-        ∙ ap (λ b. by_limit (cond {A = Option (List ℕ)} b (Some (codes "answer")) None)) (large_is ∙ large)
+    large_told : (is_too_large rows_told || not (is_showable columns_told (outcome.Found rows_told))) ≡ true → exec_on table s (tables number) ≡ (limit_reply (codes "answer"), tables number)
+    large_told large = exec_so (Found cells_told, tables number) found_so ∙ ap (λ b. by_limit (answer_limit b)) (large_is ∙ large)
 
-    small_told : (is_too_large rows_kept || not (is_showable (Some picks) (outcome.Found rows_kept))) ≡ false
-        → exec_on table s (tables number) ≡ (outcome_reply table.def (Some picks) catalog.servers (outcome.Found rows_kept), tables number)
+    small_told : (is_too_large rows_told || not (is_showable columns_told (outcome.Found rows_told))) ≡ false
+        → exec_on table s (tables number) ≡ (outcome_reply table.def columns_told catalog.servers (outcome.Found rows_told), tables number)
     small_told small =
-        exec_so (Found (map (cells_of picks.picks) rows_kept), tables number) found_so
-        ∙ ap (λ b. by_limit (cond {A = Option (List ℕ)} b (Some (codes "answer")) None)) (large_is ∙ small)
-        ∙ ap (λ w. (reply_to table.def w (Found (map (cells_of picks.picks) rows_kept)), tables number)) w_is
-        ∙ ap (λ cells. (reply.Rows (map (column_of table.def picks.table) picks.picks) cells 2, tables number)) (rows_same picks.picks rows_kept)
+        exec_so (Found cells_told, tables number) found_so
+        ∙ ap (λ b. by_limit (answer_limit b)) (large_is ∙ small)
+        ∙ ap (λ w. (reply_to table.def w (Found cells_told), tables number)) w_is
+        ∙ ap (λ cells. (reply.Rows (map (column_of table.def selected.picks.table) selected.picks.picks) cells 2, tables number)) (rows_same selected.picks.picks rows_told)
 
-    selects_so : (j : Job) (stores : List Store) (how : Ending) → Ways j stores how → concluded j ≡ selects j (cond (is_too_large rows_kept) None (Some rows_kept))
-    selects_so j stores how ways =
-        ap (concluded_by j) (ways.deed_is ∙ ap (deed_by table.def table.rule) w_is) ∙ ap (selects j) (found_within j stores how ways)
+    selects_so : (j : Job) (stores : List Store) (how : Ending) (large : Bool) → is_too_large rows_told ≡ large → Ways j stores how → concluded j ≡ tells j (option_map outcome.Found (cond large None (Some rows_told)))
+    selects_so j stores how large is_so ways =
+        ap (concluded_by j) (ways.deed_is ∙ ap (deed_by table.def table.rule) w_is)
+        ∙ ap (λ found. tells j (option_map outcome.Found (merged_within selected.order selected.skip selected.most found))) ways.found_is
+        ∙ ap (λ rows. tells j (option_map outcome.Found (within rows))) (gathered_so (work.Select selected) w_is all)
+        ∙ ap (λ b. tells j (option_map outcome.Found (cond b None (Some rows_told)))) is_so
 
-    told_by : (o : Outcome) (r : Reply) → outcome_told catalog (Some picks) table.def o ≡ r → outcome_told catalog (picks_by (work_of table.def s)) table.def o ≡ r
-    told_by o r told = ap (λ w. outcome_told catalog (picks_by w) table.def o) w_is ∙ told
+    told_by : (o : Outcome) (r : Reply) → outcome_told catalog columns_told table.def o ≡ r → outcome_told catalog (columns_by (work_of table.def s)) table.def o ≡ r
+    told_by o r told = ap (λ w. outcome_told catalog (columns_by w) table.def o) w_is ∙ told
 
-    select_by : (j : Job) (stores : List Store) (how : Ending) (large showable : Bool) → is_too_large rows_kept ≡ large → is_showable (Some picks) (outcome.Found rows_kept) ≡ showable → Ways j stores how
+    abbrev shown_told : Bool → Reply
+    shown_told showable = cond showable (outcome_reply table.def columns_told catalog.servers (outcome.Found rows_told)) (limit_reply (codes "answer"))
+
+    select_by : (j : Job) (stores : List Store) (how : Ending) (large showable : Bool) → is_too_large rows_told ≡ large → is_showable columns_told (outcome.Found rows_told) ≡ showable → Ways j stores how
         → GoesThrough catalog tables n tx number table s
     select_by j stores how true showable big fits ways =
-        gives_up_goes j stores how outcome.AnswerLimit (limit_reply (codes "answer")) ways
-        (selects_so j stores how ways ∙ ap (λ b. selects j (cond b None (Some rows_kept))) big)
-        (large_told (ap (λ b. b || not (is_showable (Some picks) (outcome.Found rows_kept))) big)) (told_by outcome.AnswerLimit (limit_reply (codes "answer")) refl)
+        gives_up_goes j stores how outcome.AnswerLimit (limit_reply (codes "answer")) ways (selects_so j stores how true big ways)
+        (large_told (ap (λ b. b || not (is_showable columns_told (outcome.Found rows_told))) big)) (told_by outcome.AnswerLimit (limit_reply (codes "answer")) refl)
     select_by j stores how false true big fits ways =
-        ends_goes j stores how (outcome.Found rows_kept) (outcome_reply table.def (Some picks) catalog.servers (outcome.Found rows_kept)) ways
-        (selects_so j stores how ways ∙ ap (λ b. selects j (cond b None (Some rows_kept))) big)
-        (small_told (ap (λ b. b || not (is_showable (Some picks) (outcome.Found rows_kept))) big ∙ ap not fits))
-        (told_by (outcome.Found rows_kept) _ (ap (λ b. cond b (outcome_reply table.def (Some picks) catalog.servers (outcome.Found rows_kept)) (limit_reply (codes "answer"))) fits))
+        ends_goes j stores how (outcome.Found rows_told) (outcome_reply table.def columns_told catalog.servers (outcome.Found rows_told)) ways (selects_so j stores how false big ways)
+        (small_told (ap (λ b. b || not (is_showable columns_told (outcome.Found rows_told))) big ∙ ap not fits))
+        (told_by (outcome.Found rows_told) (shown_told true) (ap shown_told fits))
     select_by j stores how false false big fits ways =
-        ends_goes j stores how (outcome.Found rows_kept) (limit_reply (codes "answer")) ways
-        (selects_so j stores how ways ∙ ap (λ b. selects j (cond b None (Some rows_kept))) big)
-        (large_told (ap (λ b. b || not (is_showable (Some picks) (outcome.Found rows_kept))) big ∙ ap not fits))
-        (told_by (outcome.Found rows_kept) _ (ap (λ b. cond b (outcome_reply table.def (Some picks) catalog.servers (outcome.Found rows_kept)) (limit_reply (codes "answer"))) fits))
+        ends_goes j stores how (outcome.Found rows_told) (limit_reply (codes "answer")) ways (selects_so j stores how false big ways)
+        (large_told (ap (λ b. b || not (is_showable columns_told (outcome.Found rows_told))) big ∙ ap not fits))
+        (told_by (outcome.Found rows_told) (shown_told false) (ap shown_told fits))
 
-    -- a SELECT comes to its plain answer
+    -- a SELECT of columns comes to its plain answer
     pub select_goes : (j : Job) (stores : List Store) (how : Ending) → Ways j stores how → GoesThrough catalog tables n tx number table s
-    select_goes j stores how ways = select_by j stores how (is_too_large rows_kept) (is_showable (Some picks) (outcome.Found rows_kept)) refl refl ways
+    select_goes j stores how ways = select_by j stores how (is_too_large rows_told) (is_showable columns_told (outcome.Found rows_told)) refl refl ways
+
+  -- AGGREGATES
+
+  module _ (list : List CellColumn) (w_is : work_of table.def s ≡ work.Aggregate list) (sums_fit : can_merge (aggregates_of list) parts_found ≡ true) (none_found : rows_found table.def s (tables number) ≡ []) where
+    -- what each of them is over all rows
+    abbrev results : List Literal
+    results = merged_results (aggregates_of list) parts_found
+
+    abbrev cells_counted : List Cell
+    cells_counted = map cell_text results
+
+    abbrev columns_counted : Option AnswerColumns
+    columns_counted = Some (columns.Cells list)
+
+    counted_so : executed table.def table.rule s (tables number) ≡ (Found (results ∷ []), tables number)
+    counted_so =
+        statements_are_merged number table.def table.rule s plan (tables number) is whole fit passes planned
+        ∙ ap (λ w. applied table.def (tables number) (made_of table.def w parts_found)) w_is
+        ∙ ap (λ (l : List Row). let pair : Answer × List Row = (Found (results ∷ []), l) in pair) (nothing_put table.def (tables number))
+
+    counts_so : (j : Job) (stores : List Store) (how : Ending) → Ways j stores how → concluded j ≡ ends j (outcome.Cells cells_counted)
+    counts_so j stores how ways =
+        ap (concluded_by j) (ways.deed_is ∙ ap (deed_by table.def table.rule) w_is)
+        ∙ ap (λ found. tells j (option_map outcome.Cells (cells_within (aggregates_of list) found))) ways.found_is
+        ∙ ap (λ b. tells j (option_map outcome.Cells (cond b (Some cells_counted) None))) sums_fit
+
+    counted_within : (showable : Bool) → is_showable columns_counted (outcome.Cells cells_counted) ≡ showable → is_large (work_of table.def s) (rows_found table.def s (tables number)) (results ∷ []) ≡ not showable
+    counted_within showable fits =
+        ap (λ found. is_large (work_of table.def s) found (results ∷ [])) none_found ∙ (ap (λ w. is_large w [] (results ∷ [])) w_is ∙ by showable fits)
+      where
+        by : (b : Bool) → is_showable columns_counted (outcome.Cells cells_counted) ≡ b → not (is_showable columns_counted (outcome.Cells cells_counted) && true) ≡ not b
+        by b h = ap (λ x. not (x && true)) h ∙ either_way b
+          where
+            either_way : (b : Bool) → not (b && true) ≡ not b
+            either_way true = refl
+            either_way false = refl
+
+    abbrev counted_by_limit : Option (List ℕ) → Reply × List Row
+    counted_by_limit l = within_limit table.def (work_of table.def s) (tables number) (Found (results ∷ []), tables number) l
+
+    abbrev counted_shown : Bool → Reply
+    counted_shown showable = cond showable (outcome_reply table.def columns_counted catalog.servers (outcome.Cells cells_counted)) (limit_reply (codes "answer"))
+
+    counted_told : (showable : Bool) → is_showable columns_counted (outcome.Cells cells_counted) ≡ showable → exec_on table s (tables number) ≡ (counted_shown showable, tables number)
+    counted_told true fits =
+        exec_so (Found (results ∷ []), tables number) counted_so ∙ ap (λ b. counted_by_limit (answer_limit b)) (counted_within true fits)
+        ∙ ap (λ w. (reply_to table.def w (Found (results ∷ [])), tables number)) w_is
+    counted_told false fits = exec_so (Found (results ∷ []), tables number) counted_so ∙ ap (λ b. counted_by_limit (answer_limit b)) (counted_within false fits)
+
+    count_by : (j : Job) (stores : List Store) (how : Ending) (showable : Bool) → is_showable columns_counted (outcome.Cells cells_counted) ≡ showable → Ways j stores how → GoesThrough catalog tables n tx number table s
+    count_by j stores how showable fits ways =
+        ends_goes j stores how (outcome.Cells cells_counted) (counted_shown showable) ways (counts_so j stores how ways) (counted_told showable fits)
+        (ap (λ w. outcome_told catalog (columns_by w) table.def (outcome.Cells cells_counted)) w_is ∙ ap counted_shown fits)
+
+    -- a SELECT of aggregates comes to its plain answer
+    pub aggregates_go : (j : Job) (stores : List Store) (how : Ending) → Ways j stores how → GoesThrough catalog tables n tx number table s
+    aggregates_go j stores how ways = count_by j stores how (is_showable columns_counted (outcome.Cells cells_counted)) refl ways
 
   -- WHAT IS DONE, UNLESS A LIMIT IS PASSED
 
-  module _ (no_picks : picks_by (work_of table.def s) ≡ None) where
-    told_so : (o : Outcome) (r : Reply) → outcome_told catalog None table.def o ≡ r → outcome_told catalog (picks_by (work_of table.def s)) table.def o ≡ r
+  module _ (no_picks : columns_by (work_of table.def s) ≡ None) where
+    told_so : (o : Outcome) (r : Reply) → outcome_told catalog None table.def o ≡ r → outcome_told catalog (columns_by (work_of table.def s)) table.def o ≡ r
     told_so o r told = ap (λ picks. outcome_told catalog picks table.def o) no_picks ∙ told
 
     abbrev long_limit : Bool → Option (List ℕ)
@@ -373,7 +462,7 @@ module _ (catalog : View) (tables : Tables) (n : ℕ) (tx : TxNo) (number : ℕ)
 
   -- INSERT
 
-  module _ (added : List Row) (w_is : work_of table.def s ≡ work.Insert added) (none_found : rows_found table.def s (tables number) ≡ []) where
+  module _ (added : List Row) (w_is : work_of table.def s ≡ work.Insert added) (all : items_of s ≡ scan.All) (none_found : rows_found table.def s (tables number) ≡ []) where
     abbrev news : List PlacedRow
     news = map (placed table.def table.rule) added
 
@@ -384,12 +473,12 @@ module _ (catalog : View) (tables : Tables) (n : ℕ) (tx : TxNo) (number : ℕ)
     left = put_all table.def (tables number) added
 
     inserted_so : executed table.def table.rule s (tables number) ≡ applied table.def (tables number) (added_by added taken)
-    inserted_so = executed_so ∙ ap (λ w. applied table.def (tables number) (finished table.def w rows_kept)) w_is
+    inserted_so = executed_so ∙ ap (λ w. applied table.def (tables number) (finished table.def w (arranged_by w rows_kept))) w_is
 
     found_keys : (key : ℤ) → is_found table.def.key parts_found key ≡ has_row table.def rows_kept key
     found_keys key =
         let test : Row → Bool = λ row. int_eq (key_of table.def row) key in
-        sym (any_sorted test (before (key_order table.def.key)) (all_rows parts_found)) ∙ ap (list_any test) merged_so
+        sym (any_sorted test (before (key_order table.def.key)) (all_rows parts_found)) ∙ ap (list_any test) (gathered_so (work.Insert added) w_is all)
 
     taken_so : taken_key table.def.key parts_found news ≡ taken
     taken_so =
@@ -404,8 +493,8 @@ module _ (catalog : View) (tables : Tables) (n : ℕ) (tx : TxNo) (number : ℕ)
         ∙ ap (λ ts. writes j (inserting_by ts news (taken_key table.def.key parts_found news))) ways.targets_are
         ∙ ap (λ o. writes j (inserting_by (targets_for table s) news o)) taken_so
 
-    no_cells : picks_by (work_of table.def s) ≡ None
-    no_cells = ap picks_by w_is
+    no_cells : columns_by (work_of table.def s) ≡ None
+    no_cells = ap columns_by w_is
 
     -- it writes its rows, where no key is taken
     writes_added : taken ≡ None → writes_of table.def s (tables number) ≡ Puts added
@@ -438,16 +527,16 @@ module _ (catalog : View) (tables : Tables) (n : ℕ) (tx : TxNo) (number : ℕ)
 
   -- UPDATE
 
-  module _ (sets : List SetColumn) (w_is : work_of table.def s ≡ work.Update sets) (found_same : rows_found table.def s (tables number) ≡ rows_kept) where
+  module _ (sets : List SetColumn) (w_is : work_of table.def s ≡ work.Update sets) (all : items_of s ≡ scan.All) (found_same : rows_found table.def s (tables number) ≡ rows_kept) where
     abbrev changing : Changing
     changing = record { table = table.def; rule = table.rule; sets = sets }
 
-    no_columns : picks_by (work_of table.def s) ≡ None
-    no_columns = ap picks_by w_is
+    no_columns : columns_by (work_of table.def s) ≡ None
+    no_columns = ap columns_by w_is
 
     updated_so : (r : Result (List Row) RowFault) → set_rows table.def sets 1 rows_kept ≡ r → executed table.def table.rule s (tables number) ≡ applied table.def (tables number) (changed_by rows_kept r)
     updated_so r is_so =
-        executed_so ∙ ap (λ w. applied table.def (tables number) (finished table.def w rows_kept)) w_is ∙ ap (λ x. applied table.def (tables number) (changed_by rows_kept x)) is_so
+        executed_so ∙ ap (λ w. applied table.def (tables number) (finished table.def w (arranged_by w rows_kept))) w_is ∙ ap (λ x. applied table.def (tables number) (changed_by rows_kept x)) is_so
 
     writes_changed : (r : Result (List Row) RowFault) → set_rows table.def sets 1 rows_kept ≡ r → writes_of table.def s (tables number) ≡ (changed_by rows_kept r).1
     writes_changed r is_so =
@@ -456,7 +545,7 @@ module _ (catalog : View) (tables : Tables) (n : ℕ) (tx : TxNo) (number : ℕ)
     updates_so : (j : Job) (stores : List Store) (how : Ending) → Ways j stores how → concluded j ≡ writes j (updating (targets_for table s) changing (cond (is_too_large rows_kept) None (Some rows_kept)))
     updates_so j stores how ways =
         ap (concluded_by j) (ways.deed_is ∙ ap (deed_by table.def table.rule) w_is)
-        ∙ ap (λ found. writes j (updating j.targets changing found)) (found_within j stores how ways)
+        ∙ ap (λ found. writes j (updating j.targets changing found)) (found_by_key j stores how (gathered_so (work.Update sets) w_is all) ways)
         ∙ ap (λ ts. writes j (updating ts changing (cond (is_too_large rows_kept) None (Some rows_kept)))) ways.targets_are
 
     -- how it goes on with what is set
@@ -514,13 +603,13 @@ module _ (catalog : View) (tables : Tables) (n : ℕ) (tx : TxNo) (number : ℕ)
 
   -- DELETE
 
-  module _ (w_is : work_of table.def s ≡ work.Delete) (found_same : rows_found table.def s (tables number) ≡ rows_kept) where
+  module _ (w_is : work_of table.def s ≡ work.Delete) (all : items_of s ≡ scan.All) (found_same : rows_found table.def s (tables number) ≡ rows_kept) where
     -- the keys of the rows that go
     abbrev gone : List ℤ
     gone = map (key_of table.def) rows_kept
 
     deleted_so : executed table.def table.rule s (tables number) ≡ applied table.def (tables number) (Done (length rows_kept), Dels gone)
-    deleted_so = executed_so ∙ ap (λ w. applied table.def (tables number) (finished table.def w rows_kept)) w_is
+    deleted_so = executed_so ∙ ap (λ w. applied table.def (tables number) (finished table.def w (arranged_by w rows_kept))) w_is
 
     writes_gone : writes_of table.def s (tables number) ≡ Dels gone
     writes_gone = ap (λ found. (finished table.def (work_of table.def s) found).1) found_same ∙ ap (λ w. (finished table.def w rows_kept).1) w_is
@@ -532,7 +621,7 @@ module _ (catalog : View) (tables : Tables) (n : ℕ) (tx : TxNo) (number : ℕ)
     deletes_so : (j : Job) (stores : List Store) (how : Ending) (large : Bool) → is_too_large rows_kept ≡ large → Ways j stores how → concluded j ≡ found_goes j large
     deletes_so j stores how large is_so ways =
         ap (concluded_by j) (ways.deed_is ∙ ap (deed_by table.def table.rule) w_is)
-        ∙ ap (λ found. writes j (deleting j.targets j.scan table.rule found)) (found_within j stores how ways)
+        ∙ ap (λ found. writes j (deleting j.targets j.scan table.rule found)) (found_by_key j stores how (gathered_so work.Delete w_is all) ways)
         ∙ ap (λ ts. writes j (deleting ts j.scan table.rule (cond (is_too_large rows_kept) None (Some rows_kept)))) ways.targets_are
         ∙ ap (λ scan. writes j (deleting (targets_for table s) scan table.rule (cond (is_too_large rows_kept) None (Some rows_kept)))) ways.scan_is
         ∙ ap (found_goes j) is_so
@@ -545,11 +634,11 @@ module _ (catalog : View) (tables : Tables) (n : ℕ) (tx : TxNo) (number : ℕ)
     delete_by : (j : Job) (stores : List Store) (how : Ending) (large : Bool) → is_too_large rows_kept ≡ large → Ways j stores how → Deletes j stores how → GoesThrough catalog tables n tx number table s
     delete_by j stores how true big ways through =
         gives_up_goes j stores how outcome.AnswerLimit (limit_reply (codes "answer")) ways (deletes_so j stores how true big ways)
-        (too_many_found (ap picks_by w_is) (length rows_kept) (Dels gone) deleted_so writes_gone (ap is_too_large found_same ∙ big))
-        (told_so (ap picks_by w_is) outcome.AnswerLimit (limit_reply (codes "answer")) refl)
+        (too_many_found (ap columns_by w_is) (length rows_kept) (Dels gone) deleted_so writes_gone (ap is_too_large found_same ∙ big))
+        (told_so (ap columns_by w_is) outcome.AnswerLimit (limit_reply (codes "answer")) refl)
     delete_by j stores how false small ways through =
         let keys : List PlacedKey = map (placed_key table.rule) gone in
-        done_goes (ap picks_by w_is) (length rows_kept) (Dels gone) deleted_so writes_gone j stores how (dels_of (key_name table.def) (targets_for table s) keys) (deletes_too_much (targets_for table s) keys)
+        done_goes (ap columns_by w_is) (length rows_kept) (Dels gone) deleted_so writes_gone j stores how (dels_of (key_name table.def) (targets_for table s) keys) (deletes_too_much (targets_for table s) keys)
         (ap is_too_large found_same ∙ small) refl ways
         (deletes_so j stores how false small ways
         ∙ ap (λ ks. writes j (deleting_keys (targets_for table s) (scan_for table.def s) (length rows_kept) ks)) (keys_placed table.def table.rule rows_kept)

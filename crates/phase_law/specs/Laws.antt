@@ -17,7 +17,7 @@ use Rattle.txn_phases.specs.declared.phase.Ending.TheVariants.{RolledBack}
 use Rattle.txn_phases.specs.Phases.{begins}
 use Rattle.front_core.specs.declared.event.TxNo.{TxNo}
 use Rattle.front_core.specs.Core.{outcome_told, table_named}
-use Rattle.front_core.specs.Jobs.{job_of, picks_by}
+use Rattle.front_core.specs.Jobs.{job_of, columns_by}
 use Rattle.plain_sessions.specs.Exec.{Tables, exec, exec_on, with_rows}
 use Rattle.plain_sessions.specs.Held.{CanBeServed, stores_of}
 use Rattle.phase_law.specs.Through.{Through}
@@ -38,7 +38,7 @@ pub record GoesThrough (catalog : View) (tables : Tables) (n : ℕ) (tx : TxNo) 
   pub through : Through 6 n false (stores_of catalog tables) (begins (job_of catalog tx table s))
       (stores_of catalog (with_rows tables number (exec_on table s (tables number)).1)) ending outcome
   -- the client is told the plain answer
-  pub told : outcome_told catalog (picks_by (work_of table.def s)) table.def outcome ≡ (exec_on table s (tables number)).0
+  pub told : outcome_told catalog (columns_by (work_of table.def s)) table.def outcome ≡ (exec_on table s (tables number)).0
   -- what is rolled back changed nothing
   pub undone : ending ≡ RolledBack → (exec_on table s (tables number)).1 ≡ tables number
 

@@ -1,24 +1,28 @@
 -- What a statement's text answers on the plain tables, and what it leaves.
 use Rattle.std.specs.Prelude.{ℕ, ◌==◌, Bool, not, ◌||◌, List, [], ◌∷◌, Option, Some, None, Result, Ok, Err, map, codes, if◌then◌else◌}
-use Rattle.std.specs.Fmt.{signed_decimal}
+use Rattle.std.specs.List.{list_all}
 use Rattle.std.specs.Option.{option_or}
 use Rattle.sql_values.specs.declared.literal.Literal.{Literal}
-use Rattle.sql_values.specs.declared.literal.Literal.TheVariants as literal
 use Rattle.sql_values.specs.declared.table.TableDef.{TableDef}
 use Rattle.catalog.specs.declared.tables.Table.{Table}
 use Rattle.catalog.specs.Views.{View}
 use Rattle.catalog_plan.specs.Plans.{table_of}
 use Rattle.sql_text.specs.declared.fault.ParseFault.{ParseFault}
+use Rattle.sql_text.specs.declared.statement.Select.{Select}
+use Rattle.sql_text.specs.declared.statement.SelectItems.{SelectItems}
+use Rattle.sql_text.specs.declared.statement.SelectItems.TheVariants as items
 use Rattle.sql_text.specs.declared.statement.Statement.{Statement}
 use Rattle.sql_text.specs.declared.statement.Statement.TheVariants as statement
 use Rattle.sql_text.specs.Parsing.{parsed}
+use Rattle.stmt_plan.specs.declared.planned.AnswerColumns.TheVariants as columns
 use Rattle.stmt_plan.specs.declared.planned.Work.{Work}
 use Rattle.stmt_plan.specs.declared.planned.Work.TheVariants as work
 use Rattle.stmt_plan.specs.Plans.{work_of}
 use Rattle.stmt_plan.specs.Selects.{known_as}
+use Rattle.front_rows.specs.Cells.{Cell, cell_text}
 use Rattle.front_rows.specs.Merging.{is_too_large}
 use Rattle.plain_tables.specs.Rows.{Row, kept}
-use Rattle.plain_tables.specs.Statements.{Answer, Refused, Duplicate, RowRefused, Done, Found, Writes, Puts, Dels, executed, finished}
+use Rattle.plain_tables.specs.Statements.{Answer, Refused, Duplicate, RowRefused, Done, Found, Writes, Puts, Dels, executed, finished, rows_by}
 use Rattle.txn_phases.specs.declared.deed.Outcome.TheVariants as outcome
 use Rattle.txn_phases.specs.Deeds.{deletes_too_much, placed, placed_key, writes_too_much}
 use Rattle.my_messages.specs.declared.reply.Column.{Column}
@@ -26,9 +30,9 @@ use Rattle.my_messages.specs.declared.reply.Reply.{Reply}
 use Rattle.my_messages.specs.declared.reply.Reply.TheVariants as reply
 use Rattle.sql_replies.specs.Errors.{ok_reply, duplicate_reply, limit_reply, no_table_reply, parse_reply, plan_reply}
 use Rattle.sql_replies.specs.Outcomes.{row_reply}
-use Rattle.sql_replies.specs.Results.{column_of}
+use Rattle.sql_replies.specs.Results.{column_of, cell_column_of}
 use Rattle.front_core.specs.Core.{is_showable, table_named}
-use Rattle.front_core.specs.Jobs.{picks_by, targets_for}
+use Rattle.front_core.specs.Jobs.{columns_by, targets_for}
 
 -- the rows of each table, by its number
 abbrev pub Tables : Type 0
@@ -43,16 +47,15 @@ with_rows tables number rows n = if n == number then rows else tables n
 
 -- ANSWERS
 
--- the text of a cell; NULL has none
-abbrev pub cell_text : Literal → Option (List ℕ)
-cell_text (literal.Number n) = Some (signed_decimal n)
-cell_text (literal.Text t) = Some t
-cell_text literal.Null = None
-
 -- the columns of the answer
-abbrev pub columns_by : TableDef → Work → List Column
-columns_by def (work.Select picks) = map (column_of def picks.table) picks.picks
-columns_by def _ = []
+abbrev pub columns_shown : TableDef → Work → List Column
+columns_shown def (work.Select selected) = map (column_of def selected.picks.table) selected.picks.picks
+columns_shown def (work.Aggregate list) = map cell_column_of list
+columns_shown def _ = []
+
+-- a row of cells as its texts
+abbrev pub cells_shown : List Literal → List Cell
+cells_shown row = map cell_text row
 
 -- what a client is told of an answer
 abbrev pub reply_to : TableDef → Work → Answer → Reply
@@ -60,14 +63,18 @@ reply_to def w (Refused fault) = plan_reply fault
 reply_to def w (Duplicate key) = duplicate_reply key
 reply_to def w (RowRefused fault) = row_reply fault
 reply_to def w (Done count) = ok_reply count
-reply_to def w (Found cells) = reply.Rows (columns_by def w) (map (λ row. map cell_text row) cells) 2
+reply_to def w (Found cells) = reply.Rows (columns_shown def w) (map cells_shown cells) 2
 
 -- LIMITS
 
--- the rows on which the condition of a statement holds, whole; an INSERT has none
+-- the rows that a statement finds, whole, as it takes them: those of a SELECT in its order, and cut. An INSERT takes none, and neither do aggregates
+abbrev pub rows_selected : TableDef → Select → List Row → SelectItems → List Row
+rows_selected def select rows (items.Aggregates list) = []
+rows_selected def select rows list = rows_by def select rows
+
 abbrev pub rows_found : TableDef → Statement → List Row → List Row
 rows_found def (statement.Insert insert) rows = []
-rows_found def (statement.Select select) rows = kept (known_as def select.tab) select.cond rows
+rows_found def (statement.Select select) rows = rows_selected (known_as def select.tab) select rows select.items
 rows_found def (statement.Update update) rows = kept def update.cond rows
 rows_found def (statement.Delete delete) rows = kept def delete.cond rows
 
@@ -80,21 +87,27 @@ abbrev pub is_long : Table → Statement → Writes → Bool
 is_long table s (Puts news) = writes_too_much (targets_for table s) (map (placed table.def table.rule) news)
 is_long table s (Dels keys) = deletes_too_much (targets_for table s) (map (placed_key table.rule) keys)
 
+-- packets can hold the rows, or the row of aggregates
+abbrev pub is_shown : Work → List Row → List (List Literal) → Bool
+is_shown (work.Aggregate list) found cells = list_all (λ (row : List Literal). is_showable (Some (columns.Cells list)) (outcome.Cells (cells_shown row))) cells
+is_shown w found cells = is_showable (columns_by w) (outcome.Found found)
+
 -- the answer has more rows, or more bytes of them, than it may have, or no packets can hold it
-abbrev pub is_large : TableDef → Statement → List Row → Bool
-is_large def s found = is_too_large found || not (is_showable (picks_by (work_of def s)) (outcome.Found found))
+abbrev pub is_large : Work → List Row → List (List Literal) → Bool
+is_large w found cells = is_too_large found || not (is_shown w found cells)
 
 abbrev pub answer_limit : Bool → Option (List ℕ)
 answer_limit large = if large then Some (codes "answer") else None
 
--- the limit that an answer passes: that of answers, which counts the rows that are found to be changed too, or that of what is written at a server
+-- the limit that an answer passes: that of answers, which counts the rows of a SELECT as they are cut, and the rows that are found to be changed too, or that
+-- of what is written at a server
 abbrev pub limit_passed : Table → Statement → List Row → Answer → Option (List ℕ)
 limit_passed table s rows (Refused fault) = None
 limit_passed table s rows (Duplicate key) = None
 limit_passed table s rows (RowRefused fault) = answer_limit (is_too_large (rows_found table.def s rows))
 limit_passed table s rows (Done count) =
     option_or (answer_limit (is_too_large (rows_found table.def s rows))) (if is_long table s (writes_of table.def s rows) then Some (codes "write set") else None)
-limit_passed table s rows (Found cells) = answer_limit (is_large table.def s (rows_found table.def s rows))
+limit_passed table s rows (Found cells) = answer_limit (is_large (work_of table.def s) (rows_found table.def s rows) cells)
 
 -- STATEMENTS
 

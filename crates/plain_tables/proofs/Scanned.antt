@@ -26,11 +26,18 @@ use Rattle.part_rules.specs.declared.rule.Rule.{Rule}
 use Rattle.part_rules.specs.Keeps.{names_key}
 use Rattle.part_rules.specs.KeyRows.{HasOwnKeyName}
 use Rattle.part_rules.proofs.KeptKeys.{key_value}
+use Rattle.sql_text.specs.declared.statement.AggregateItem.{AggregateItem}
+use Rattle.sql_text.specs.declared.statement.Select.{Select}
+use Rattle.sql_text.specs.declared.statement.SelectItems.{SelectItems}
+use Rattle.sql_text.specs.declared.statement.SelectItems.TheVariants as items
 use Rattle.sql_text.specs.declared.statement.Statement.{Statement}
 use Rattle.sql_text.specs.declared.statement.Statement.TheVariants as statement
 use Rattle.sql_text.specs.declared.statement.Tab.{Tab}
+use Rattle.front_rows.specs.Aggregates.{over}
+use Rattle.front_rows.specs.Merging.{arranged}
 use Rattle.stmt_plan.specs.declared.fault.RowFault.{RowFault}
 use Rattle.stmt_plan.specs.declared.fault.StmtFault.TheVariants.{NoColumn}
+use Rattle.stmt_plan.specs.declared.planned.CellColumn.{CellColumn}
 use Rattle.stmt_plan.specs.declared.planned.Plan.{Plan}
 use Rattle.stmt_plan.specs.declared.planned.Work.{Work}
 use Rattle.stmt_plan.specs.declared.planned.Work.TheVariants as work
@@ -38,17 +45,16 @@ use Rattle.stmt_plan.specs.Inserts.{rows_of, row_key, AreRising, in_keys, key_na
 use Rattle.stmt_plan.specs.Plans.{IsPlan}
 use Rattle.stmt_plan.specs.Plans.{IsTable as IsDefinition}
 use Rattle.stmt_plan.specs.Refusals.{no_column}
-use Rattle.stmt_plan.specs.Selects.{known_as, known_name, item_columns, where_columns, named_columns, picks_of, unqualified}
+use Rattle.stmt_plan.specs.Selects.{aggregate_of, cell_column, known_as, item_columns, most_of, order_columns, order_of, where_columns, named_columns, picks_of, skip_of, unqualified, work_by}
 use Rattle.stmt_plan.specs.Settings.{assigned_columns, update_columns, settings}
 use Rattle.stmt_plan.proofs.BareNames.{unqualified_means_the_same}
 use Rattle.stmt_plan.proofs.Seeks.{first-append}
 use Rattle.plain_tables.specs.Rows.{Row, key_of, HasKey, holds_on, kept}
 use Rattle.plain_tables.specs.Inserts.{has_row, first_taken, put_all, without, FindsKeys}
-use Rattle.plain_tables.specs.Partitions.{IsTable, rows_in}
-use Rattle.plain_tables.specs.Statements.{Found, Done, cells_of, inserted_by, updated_by, executed_by, done_by, finished, added_by, changed_by, applied, StatementsAreScans, StatementsAreMerged}
+use Rattle.plain_tables.specs.Partitions.{IsTable}
+use Rattle.plain_tables.specs.Statements.{Answer, Found, Done, cells_of, inserted_by, selected_by, updated_by, executed_by, done_by, finished, arranged_by, added_by, changed_by, applied, StatementsAreScans}
 use Rattle.plain_tables.specs.Updates.{set_rows}
 use Rattle.plain_tables.proofs.Deleted.{rows_with_keys_go}
-use Rattle.plain_tables.proofs.Merged.{partitions_are_merged, rows_merge_in_one_way}
 use Rattle.plain_tables.proofs.Inserted.{found_keys_tell}
 
 pub own_key : (def : TableDef) → IsDefinition def → HasOwnKeyName def
@@ -57,17 +63,21 @@ own_key def is j other column there here same = is.apart j def.key other column 
 -- WHERE UNDER THE STATEMENT'S NAME OF THE TABLE
 
 -- neither is there, where the first that is there isn't
-both_none : {X : Type 0} (a b : Option X) → option_or a b ≡ None → (a ≡ None) × (b ≡ None)
+pub both_none : {X : Type 0} (a b : Option X) → option_or a b ≡ None → (a ≡ None) × (b ≡ None)
 both_none None b is = (refl, is)
 both_none (Some x) b is = let no : Some x ≡ None = is in cc
 
-unmapped : {X Y : Type 0} (f : X → Y) (a : Option X) → option_map f a ≡ None → a ≡ None
+pub unmapped : {X Y : Type 0} (f : X → Y) (a : Option X) → option_map f a ≡ None → a ≡ None
 unmapped f None is = refl
 unmapped f (Some x) is = let no : Some (f x) ≡ None = is in cc
 
 -- where no name is found in a text, none is in its second part
-last_none : (test : ColumnName → Bool) (xs ys : List ColumnName) → first_column test (xs ++ ys) ≡ None → first_column test ys ≡ None
+pub last_none : (test : ColumnName → Bool) (xs ys : List ColumnName) → first_column test (xs ++ ys) ≡ None → first_column test ys ≡ None
 last_none test xs ys none = (both_none (first_column test xs) (first_column test ys) (sym (first-append test xs ys) ∙ none)).1
+
+-- and none in its first part
+pub first_none : (test : ColumnName → Bool) (xs ys : List ColumnName) → first_column test (xs ++ ys) ≡ None → first_column test xs ≡ None
+first_none test xs ys none = (both_none (first_column test xs) (first_column test ys) (sym (first-append test xs ys) ∙ none)).0
 
 pushed_means : (def : TableDef) (tab : Tab) (c : Option Cond) (row : Row) → first_column (is_unknown (known_as def tab ∷ [])) (where_columns c) ≡ None
     → holds_on def (option_map unqualified c) row ≡ holds_on (known_as def tab) c row
@@ -130,14 +140,32 @@ unfolding put_all
 set def rows hits (Err fault) = refl
 set def rows hits (Ok news) = refl
 
--- what a plan's work makes of the rows of its condition, where the plan is the statement's
-planned_work : (def : TableDef) (rows : List Row) (w v : Work) (c d : Option Cond) → v ≡ w → d ≡ c
-    → applied def rows (finished def w (kept def c rows)) ≡ applied def rows (finished def v (kept def d rows))
-planned_work def rows w v c d works conds =
-    ap (λ (x : Option Cond). applied def rows (finished def w (kept def x rows))) (sym conds) ∙ ap (λ (x : Work). applied def rows (finished def x (kept def d rows))) (sym works)
+-- the answer's columns have the aggregates
+fused : (known : TableDef) (found : List Row) (list : List AggregateItem) → map (λ (item : AggregateItem). over found (aggregate_of known item.call)) list ≡ map (λ (column : CellColumn). over found column.aggregate) (map (cell_column known) list)
+fused known found [] = refl
+fused known found (item ∷ list) = ap (λ cells. over found (aggregate_of known item.call) ∷ cells) (fused known found list)
+
+-- what a SELECT makes of the rows of its condition
+chosen : (def known : TableDef) (select : Select) (found rows : List Row) (l : SelectItems) → kept known select.cond rows ≡ found
+    → (selected_by known select rows l, rows) ≡ applied def rows (finished def (work_by known select l) (arranged_by (work_by known select l) found))
+unfolding put_all
+chosen def known select found rows items.All is =
+    ap (λ f. (Found (map (cells_of (picks_of known items.All)) (arranged (order_of known select.order) (skip_of select.limit) (most_of select.limit) f)), rows)) is
+chosen def known select found rows (items.Columns l) is =
+    ap (λ f. (Found (map (cells_of (picks_of known (items.Columns l))) (arranged (order_of known select.order) (skip_of select.limit) (most_of select.limit) f)), rows)) is
+chosen def known select found rows (items.Aggregates l) is =
+    ap (λ f. (Found (map (λ (item : AggregateItem). over f (aggregate_of known item.call)) l ∷ []), rows)) is ∙ ap (λ cells. (Found (cells ∷ []), rows)) (fused known found l)
+
+-- what a work makes of the rows of a condition
+abbrev made_of : TableDef → List Row → Work → Option Cond → Answer × List Row
+made_of def rows w c = applied def rows (finished def w (arranged_by w (kept def c rows)))
+
+-- of a plan's work and condition, where the plan is the statement's
+planned_work : (def : TableDef) (rows : List Row) (w v : Work) (c d : Option Cond) → v ≡ w → d ≡ c → made_of def rows w c ≡ made_of def rows v d
+planned_work def rows w v c d works conds = ap (made_of def rows w) (sym conds) ∙ ap (λ (x : Work). made_of def rows x d) (sym works)
 
 scanned : (number : ℕ) (def : TableDef) (rule : Rule) (s : Statement) (plan : Plan) (rows : List Row) → IsDefinition def → IsTable def rule rows → no_column def s ≡ None → IsPlan number def rule s plan
-    → done_by def s rows ≡ applied def rows (finished def plan.work (kept def plan.cond rows))
+    → done_by def s rows ≡ made_of def rows plan.work plan.cond
 unfolding put_all
 scanned number def rule (statement.Insert insert) plan rows is table known planned =
     let news = rows_of def insert.columns insert.rows in
@@ -147,11 +175,12 @@ scanned number def rule (statement.Insert insert) plan rows is table known plann
     ∙ ap (λ o. applied def rows (added_by news o)) (sym found)
     ∙ planned_work def rows (work.Insert news) plan.work (Some (in_keys def planned.cond.list)) plan.cond planned.work_is planned.cond.in_list
 scanned number def rule (statement.Select select) plan rows is table known planned =
-    let named = unmapped NoColumn (first_column (is_unknown (known_as def select.tab ∷ [])) (named_columns select.items select.cond)) known in
-    let same = pushed_keeps def select.tab select.cond rows (last_none (is_unknown (known_as def select.tab ∷ [])) (item_columns select.items) (where_columns select.cond) named) in
-    let picks = picks_of (known_as def select.tab) select.items in
-    ap (λ found. (Found (map (cells_of picks) found), rows)) (sym same)
-    ∙ planned_work def rows (work.Select (record { table = known_name select.tab; picks = picks })) plan.work (option_map unqualified select.cond) plan.cond planned.work_is planned.cond
+    let unknown = is_unknown (known_as def select.tab ∷ []) in
+    let named = unmapped NoColumn (first_column unknown (named_columns select)) known in
+    let behind_items = last_none unknown (item_columns select.items) (where_columns select.cond ++ order_columns select.order) named in
+    let same = pushed_keeps def select.tab select.cond rows (first_none unknown (where_columns select.cond) (order_columns select.order) behind_items) in
+    chosen def (known_as def select.tab) select (kept def (option_map unqualified select.cond) rows) rows select.items (sym same)
+    ∙ planned_work def rows (work_by (known_as def select.tab) select select.items) plan.work (option_map unqualified select.cond) plan.cond planned.work_is planned.cond
 scanned number def rule (statement.Update update) plan rows is table known planned =
     let named = unmapped NoColumn (first_column (is_unknown (def ∷ [])) (update_columns update)) known in
     let same = own_keeps def update.cond rows (last_none (is_unknown (def ∷ [])) (assigned_columns update.sets) (where_columns update.cond) named) in
@@ -169,9 +198,3 @@ scanned number def rule (statement.Delete delete) plan rows is table known plann
 pub statements_are_scans : StatementsAreScans
 statements_are_scans number def rule s plan rows is table passes planned =
     ap (executed_by def s rows) passes ∙ scanned number def rule s plan rows is table (both_none (no_column def s) _ passes).0 planned
-
-pub statements_are_merged : StatementsAreMerged
-statements_are_merged number def rule s plan rows all is table passes planned merged =
-    let same = rows_merge_in_one_way def (map (λ p. kept def plan.cond (rows_in def rule p rows)) plan.parts) (kept def plan.cond rows) all
-    (partitions_are_merged def rule rows plan.cond plan.keys plan.parts (own_key def is) table planned.keys planned.parts) merged in
-    statements_are_scans number def rule s plan rows is table passes planned ∙ ap (λ found. applied def rows (finished def plan.work found)) same

@@ -1,5 +1,6 @@
 pub mod Inserts
 pub mod Partitions
 pub mod Rows
+pub mod Scans
 pub mod Statements
 pub mod Updates

@@ -1,5 +1,5 @@
 -- What a statement on one table answers, and what it leaves.
-use Rattle.std.specs.Prelude.{◌≡◌, ℕ, ℤ, not, List, [], Option, Some, None, Result, Ok, Err, map, length, slice_get}
+use Rattle.std.specs.Prelude.{◌≡◌, ℕ, ℤ, not, List, [], ◌∷◌, Option, Some, None, Result, Ok, Err, map, length, slice_get}
 use Rattle.std.specs.List.{filter}
 use Rattle.std.specs.Option.{option_map_or}
 use Rattle.sql_values.specs.declared.literal.Literal.{Literal}
@@ -7,13 +7,19 @@ use Rattle.sql_values.specs.declared.literal.Literal.TheVariants as literal
 use Rattle.sql_values.specs.declared.table.TableDef.{TableDef}
 use Rattle.sql_values.specs.Conditions.{literal_of}
 use Rattle.part_rules.specs.declared.rule.Rule.{Rule}
+use Rattle.sql_text.specs.declared.statement.AggregateItem.{AggregateItem}
 use Rattle.sql_text.specs.declared.statement.Delete.{Delete}
 use Rattle.sql_text.specs.declared.statement.Select.{Select}
+use Rattle.sql_text.specs.declared.statement.SelectItems.{SelectItems}
+use Rattle.sql_text.specs.declared.statement.SelectItems.TheVariants as items
 use Rattle.sql_text.specs.declared.statement.Statement.{Statement}
 use Rattle.sql_text.specs.declared.statement.Statement.TheVariants as statement
 use Rattle.sql_text.specs.declared.statement.Update.{Update}
+use Rattle.front_rows.specs.Aggregates.{over}
+use Rattle.front_rows.specs.Merging.{arranged}
 use Rattle.stmt_plan.specs.declared.fault.RowFault.{RowFault}
 use Rattle.stmt_plan.specs.declared.fault.StmtFault.{StmtFault}
+use Rattle.stmt_plan.specs.declared.planned.CellColumn.{CellColumn}
 use Rattle.stmt_plan.specs.declared.planned.Pick.{Pick}
 use Rattle.stmt_plan.specs.declared.planned.Plan.{Plan}
 use Rattle.stmt_plan.specs.declared.planned.Work.{Work}
@@ -22,10 +28,10 @@ use Rattle.stmt_plan.specs.Inserts.{rows_of}
 use Rattle.stmt_plan.specs.Plans.{IsPlan}
 use Rattle.stmt_plan.specs.Plans.{IsTable as IsDefinition}
 use Rattle.stmt_plan.specs.Refusals.{refusal}
-use Rattle.stmt_plan.specs.Selects.{known_as, picks_of}
+use Rattle.stmt_plan.specs.Selects.{aggregate_of, known_as, most_of, order_of, picks_of, skip_of}
 use Rattle.stmt_plan.specs.Settings.{settings}
 use Rattle.plain_tables.specs.Inserts.{has_row, first_taken, put_all, without}
-use Rattle.plain_tables.specs.Partitions.{IsTable, IsMerged, rows_in}
+use Rattle.plain_tables.specs.Partitions.{IsTable}
 use Rattle.plain_tables.specs.Rows.{Row, key_of, holds_on, kept}
 use Rattle.plain_tables.specs.Updates.{set_rows, changed}
 
@@ -57,9 +63,18 @@ inserted_by def rows news None = (Done (length news), put_all def rows news)
 abbrev pub inserted : TableDef → List Row → List Row → Answer × List Row
 inserted def news rows = inserted_by def rows news (first_taken (has_row def rows) (map (key_of def) news))
 
--- SELECT: the rows on which WHERE holds, under the statement's name of the table, reduced to its items
+-- SELECT: the rows on which WHERE holds, by the columns of ORDER BY and then by the key, without those that OFFSET skips, at most as many as LIMIT says
+abbrev pub rows_by : TableDef → Select → List Row → List Row
+rows_by def select rows = arranged (order_of def select.order) (skip_of select.limit) (most_of select.limit) (kept def select.cond rows)
+
+-- of columns these rows, reduced to the items; of aggregates one row with those over all rows on which WHERE holds
+abbrev pub selected_by : TableDef → Select → List Row → SelectItems → Answer
+selected_by def select rows (items.Aggregates list) = Found (map (λ (item : AggregateItem). over (kept def select.cond rows) (aggregate_of def item.call)) list ∷ [])
+selected_by def select rows list = Found (map (cells_of (picks_of def list)) (rows_by def select rows))
+
+-- the table is known by the statement's name of it
 abbrev pub selected : TableDef → Select → List Row → Answer
-selected def select rows = Found (map (cells_of (picks_of (known_as def select.tab) select.items)) (kept (known_as def select.tab) select.cond rows))
+selected def select rows = selected_by (known_as def select.tab) select rows select.items
 
 -- UPDATE: the rows on which WHERE holds are set, unless one can't be; those whose values change count
 abbrev pub updated_by : TableDef → List Row → List Row → Result (List Row) RowFault → Answer × List Row
@@ -110,9 +125,15 @@ changed_by found (Ok news) = (Done (length (changed found news)), Puts (changed 
 
 abbrev pub finished : TableDef → Work → List Row → Answer × Writes
 finished def (work.Insert news) found = added_by news (first_taken (has_row def found) (map (key_of def) news))
-finished def (work.Select picks) found = (Found (map (cells_of picks.picks) found), Puts [])
+finished def (work.Select selected) found = (Found (map (cells_of selected.picks.picks) found), Puts [])
+finished def (work.Aggregate columns) found = (Found (map (λ (column : CellColumn). over found column.aggregate) columns ∷ []), Puts [])
 finished def (work.Update sets) found = changed_by found (set_rows def sets 1 found)
 finished def work.Delete found = (Done (length found), Dels (map (key_of def) found))
+
+-- the rows as a statement takes them: a SELECT of columns in its order, and cut; each other one by their keys, as they stand
+abbrev pub arranged_by : Work → List Row → List Row
+arranged_by (work.Select selected) rows = arranged selected.order selected.skip selected.most rows
+arranged_by _ rows = rows
 
 -- its answer, and the table with what it writes
 abbrev pub applied : TableDef → List Row → Answer × Writes → Answer × List Row
@@ -122,11 +143,4 @@ applied def rows made = (made.0, written def rows made.1)
 abbrev pub StatementsAreScans : Type 0
 StatementsAreScans =
     (number : ℕ) (def : TableDef) (rule : Rule) (s : Statement) (plan : Plan) (rows : List Row) → IsDefinition def → IsTable def rule rows →
-    refusal def rule s ≡ None → IsPlan number def rule s plan → executed def rule s rows ≡ applied def rows (finished def plan.work (kept def plan.cond rows))
-
--- the scan may be that of the plan's partitions, merged
-abbrev pub StatementsAreMerged : Type 0
-StatementsAreMerged =
-    (number : ℕ) (def : TableDef) (rule : Rule) (s : Statement) (plan : Plan) (rows all : List Row) → IsDefinition def → IsTable def rule rows →
-    refusal def rule s ≡ None → IsPlan number def rule s plan → IsMerged def (map (λ p. kept def plan.cond (rows_in def rule p rows)) plan.parts) all →
-    executed def rule s rows ≡ applied def rows (finished def plan.work all)
+    refusal def rule s ≡ None → IsPlan number def rule s plan → executed def rule s rows ≡ applied def rows (finished def plan.work (arranged_by plan.work (kept def plan.cond rows)))

@@ -2,7 +2,7 @@
 
 ghost use Rattle.plain_tables.specs.Inserts.{FoundKeysTell, PutsKeepTables, PutsArePlaced, DeletionsKeepTables, DeletionsArePlaced};
 ghost use Rattle.plain_tables.specs.Partitions.{PartitionsAreMerged, RowsMergeInOneWay};
-ghost use Rattle.plain_tables.specs.Statements.{StatementsAreScans, StatementsAreMerged};
+ghost use Rattle.plain_tables.specs.Statements.{StatementsAreScans};
 ghost use Rattle.plain_tables.specs.Updates.{UpdatesKeepKeys, UpdatesAreRows, UpdatesFitColumns};
 
 /// Lists of rows merge to one list.
@@ -58,9 +58,4 @@ pub fn updates_fit_columns()
 /// A statement that isn't refused is a scan of its plan's condition, and what it makes of the rows that this finds.
 pub fn statements_are_scans()
     ensures { StatementsAreScans }
-{}
-
-/// It is the same of the scans of its plan's partitions, merged.
-pub fn statements_are_merged()
-    ensures { StatementsAreMerged }
 {}

@@ -1,2 +1,3 @@
+pub mod CellRows
 pub mod Fits
 pub mod Shaped

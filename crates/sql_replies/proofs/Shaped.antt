@@ -8,11 +8,11 @@ use Rattle.sql_values.specs.Laws.{is_of}
 use Rattle.txn_phases.specs.Phases.{is_short, is_shaped}
 use Rattle.sql_replies.specs.Outcomes.{are_short_rows}
 
-left : (a b : Bool) → (a && b) ≡ true → a ≡ true
+pub left : (a b : Bool) → (a && b) ≡ true → a ≡ true
 left true b h = refl
 left false b h = h
 
-right : (a b : Bool) → (a && b) ≡ true → b ≡ true
+pub right : (a b : Bool) → (a && b) ≡ true → b ≡ true
 right true b h = h
 right false b h = cc
 

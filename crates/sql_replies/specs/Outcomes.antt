@@ -1,5 +1,5 @@
 -- What a client is answered for a statement that was at work.
-use Rattle.std.specs.Prelude.{◌≡◌, ℕ, ◌<◌, ◌≤◌, ◌==◌, ◌&&◌, Bool, true, List, [], Option, Some, None, length, drop, codes, nat_eq, slice_get, if◌then◌else◌}
+use Rattle.std.specs.Prelude.{◌≡◌, ℕ, ◌<◌, ◌≤◌, ◌==◌, ◌&&◌, Bool, true, List, [], Option, Some, length, drop, codes, nat_eq, nat_le, slice_get, if◌then◌else◌}
 use Rattle.std.specs.List.{list_all, starts_with}
 use Rattle.std.specs.Option.{option_map_or}
 use Rattle.my_messages.specs.declared.reply.Reply.{Reply}
@@ -9,13 +9,17 @@ use Rattle.sql_values.specs.declared.table.TableDef.{TableDef}
 use Rattle.sql_values.specs.declared.value.Value.{Value}
 use Rattle.stmt_plan.specs.declared.fault.RowFault.{RowFault}
 use Rattle.stmt_plan.specs.declared.fault.RowFault.TheVariants as row_fault
+use Rattle.stmt_plan.specs.declared.planned.AnswerColumns.{AnswerColumns}
+use Rattle.stmt_plan.specs.declared.planned.AnswerColumns.TheVariants as columns
+use Rattle.stmt_plan.specs.declared.planned.CellColumn.{CellColumn}
 use Rattle.stmt_plan.specs.declared.planned.Picks.{Picks}
 use Rattle.txn_phases.specs.declared.deed.Outcome.{Outcome}
 use Rattle.txn_phases.specs.declared.deed.Outcome.TheVariants as outcome
 use Rattle.txn_phases.specs.declared.deed.Refusal.{Refusal}
 use Rattle.txn_phases.specs.Phases.{is_short, is_shaped}
 use Rattle.sql_replies.specs.Errors.{shown, ok_reply, no_memory_reply, duplicate_reply, arithmetic_reply, range_reply, too_long_reply, refused_reply, limit_reply}
-use Rattle.sql_replies.specs.Results.{rows_reply}
+use Rattle.front_rows.specs.Cells.{Cell}
+use Rattle.sql_replies.specs.Results.{rows_reply, cells_reply}
 
 -- the limit that a backend's message names: what follows `Limit: `, or nothing where the message begins otherwise or more than 64 bytes follow
 abbrev pub limit_in : List ℕ → List ℕ
@@ -33,9 +37,14 @@ refusal_reply servers refusal =
     else refused_reply (server_name servers refusal.server) refusal.number
 
 -- rows that were found, reduced to the columns that the statement asks for. One that asks for none, as INSERT, finds none
-abbrev pub found_reply : TableDef → Option Picks → List (List Value) → Reply
-found_reply table (Some picks) rows = rows_reply table picks rows
-found_reply table None rows = ok_reply 0
+abbrev pub found_reply : TableDef → Option AnswerColumns → List (List Value) → Reply
+found_reply table (Some (columns.Picks picks)) rows = rows_reply table picks rows
+found_reply table _ rows = ok_reply 0
+
+-- aggregates, under the names that the statement asks for
+abbrev pub counted_reply : Option AnswerColumns → List Cell → Reply
+counted_reply (Some (columns.Cells list)) cells = cells_reply list cells
+counted_reply _ cells = ok_reply 0
 
 -- a row that an UPDATE can't change
 abbrev pub row_reply : RowFault → Reply
@@ -44,8 +53,9 @@ row_reply (row_fault.OutOfRange column row) = range_reply column row
 row_reply (row_fault.TooLong column row) = too_long_reply column row
 
 -- the reply to a statement on this table that asks for these columns
-abbrev pub outcome_reply : TableDef → Option Picks → List HostEntry → Outcome → Reply
+abbrev pub outcome_reply : TableDef → Option AnswerColumns → List HostEntry → Outcome → Reply
 outcome_reply table picks servers (outcome.Found rows) = found_reply table picks rows
+outcome_reply table picks servers (outcome.Cells cells) = counted_reply picks cells
 outcome_reply table picks servers (outcome.Done count) = ok_reply count
 outcome_reply table picks servers (outcome.Duplicate key) = duplicate_reply key
 outcome_reply table picks servers (outcome.RowRefused fault) = row_reply fault
@@ -61,9 +71,21 @@ are_short_rows rows = list_all (list_all is_short) rows
 abbrev pub AreFewPicks : Picks → Type 0
 AreFewPicks picks = (0 < length picks.picks) × (length picks.picks ≤ 900)
 
+-- no cell is longer than a column may hold
+abbrev pub is_short_cell : Cell → Bool
+is_short_cell cell = option_map_or (λ (text : List ℕ). nat_le (length text) 1024) cell true
+
+-- a cell for each of 1 to 900 aggregates
+pub record AreFewCells (list : List CellColumn) (cells : List Cell) : Type 0 where
+  pub some : 0 < length list
+  pub few : length list ≤ 900
+  pub each : length cells ≡ length list
+  pub short : list_all is_short_cell cells ≡ true
+
 -- rows that were found fit packets: 900 cells of 1,024 bytes with their lengths are 924,300 bytes
-abbrev pub IsShowable : Option Picks → Outcome → Type 0
-IsShowable (Some picks) (outcome.Found rows) = AreFewPicks picks × (are_short_rows rows ≡ true)
+abbrev pub IsShowable : Option AnswerColumns → Outcome → Type 0
+IsShowable (Some (columns.Picks picks)) (outcome.Found rows) = AreFewPicks picks × (are_short_rows rows ≡ true)
+IsShowable (Some (columns.Cells list)) (outcome.Cells cells) = AreFewCells list cells
 IsShowable _ _ = Unit {0}
 
 -- rows with a value of each of these kinds, as servers answer them, have no longer text

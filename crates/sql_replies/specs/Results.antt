@@ -1,5 +1,5 @@
--- A SELECT's rows as a text resultset: MySQL Client/Server Protocol, "Protocol::ColumnDefinition41" and "ProtocolText::ResultsetRow".
-use Rattle.std.specs.Prelude.{ℕ, ◌*◌, ◌-◌, ◌^◌, ◌==◌, List, [], Option, map, min, codes, slice_get, if◌then◌else◌}
+-- A SELECT's answer as a text resultset: MySQL Client/Server Protocol, "Protocol::ColumnDefinition41" and "ProtocolText::ResultsetRow".
+use Rattle.std.specs.Prelude.{ℕ, ◌*◌, ◌-◌, ◌^◌, ◌==◌, List, [], ◌∷◌, Option, length, map, min, nat_lt, codes, slice_get, if◌then◌else◌}
 use Rattle.std.specs.Fmt.{signed_decimal}
 use Rattle.std.specs.Option.{option_map, option_map_or}
 use Rattle.my_messages.specs.declared.reply.Column.{Column}
@@ -11,6 +11,10 @@ use Rattle.sql_values.specs.declared.table.Kind.TheVariants.{BigInt, VarChar}
 use Rattle.sql_values.specs.declared.table.TableDef.{TableDef}
 use Rattle.sql_values.specs.declared.value.Value.{Value}
 use Rattle.sql_values.specs.declared.value.Value.TheVariants as value
+use Rattle.front_rows.specs.declared.aggregate.AggFun.{AggFun}
+use Rattle.front_rows.specs.declared.aggregate.AggFun.TheVariants.{Count, Sum, Min, Max}
+use Rattle.front_rows.specs.Cells.{Cell}
+use Rattle.stmt_plan.specs.declared.planned.CellColumn.{CellColumn}
 use Rattle.stmt_plan.specs.declared.planned.Pick.{Pick}
 use Rattle.stmt_plan.specs.declared.planned.Picks.{Picks}
 use Rattle.sql_replies.specs.Errors.{shown}
@@ -70,3 +74,53 @@ cells_of picks row = map (cell_of row) picks
 -- these columns of these rows of the table
 abbrev pub rows_reply : TableDef → Picks → List (List Value) → Reply
 rows_reply table picks rows = reply.Rows (map (column_of table picks.table) picks.picks) (map (cells_of picks.picks) rows) 2
+
+-- AGGREGATES
+
+-- a call's text of at most 134 bytes, as each is of two names of 64; nothing in place of a longer one
+abbrev pub shown_call : List ℕ → List ℕ
+shown_call text = if nat_lt (length text) 135 then text else []
+
+-- a count is a BIGINT; a sum is a number of any length (MYSQL_TYPE_NEWDECIMAL), and the least and the greatest value are as their column
+abbrev pub result_type : AggFun → Kind → ℕ
+result_type Count kind = 8
+result_type Sum kind = 246
+result_type Min kind = type_of kind
+result_type Max kind = type_of kind
+
+abbrev pub result_charset : AggFun → Kind → ℕ
+result_charset Count kind = 63
+result_charset Sum kind = 63
+result_charset Min kind = charset_of kind
+result_charset Max kind = charset_of kind
+
+abbrev pub result_length : AggFun → Kind → ℕ
+result_length Count kind = 20
+result_length Sum kind = 41
+result_length Min kind = length_of kind
+result_length Max kind = length_of kind
+
+-- only a count is never NULL
+abbrev pub result_flags : AggFun → ℕ
+result_flags Count = 1
+result_flags Sum = 0
+result_flags Min = 0
+result_flags Max = 0
+
+-- a column of the answer that is no column of a table
+abbrev pub cell_column_of : CellColumn → Column
+cell_column_of c = record {
+  schema = [];
+  table = [];
+  org_table = [];
+  name = shown_call c.name;
+  org_name = [];
+  charset = result_charset c.aggregate.fun c.aggregate.kind;
+  length = result_length c.aggregate.fun c.aggregate.kind;
+  kind = result_type c.aggregate.fun c.aggregate.kind;
+  flags = result_flags c.aggregate.fun;
+}
+
+-- one row, of these cells
+abbrev pub cells_reply : List CellColumn → List Cell → Reply
+cells_reply columns cells = reply.Rows (map cell_column_of columns) (cells ∷ []) 2

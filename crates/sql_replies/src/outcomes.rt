@@ -1,17 +1,18 @@
 //! Statements that were at work.
 ghost use Rattle.std.specs.Prelude.{◌≡◌, ◌≤◌, length, IfOk};
 ghost use Rattle.my_messages.specs.Reply.{HasBytes};
-ghost use Rattle.sql_replies.specs.Outcomes.{limit_in as limit_meant, server_name as name_meant, refusal_reply, found_reply, row_reply as reply_to_row, outcome_reply as reply_to_outcome, IsShowable};
+ghost use Rattle.sql_replies.specs.Outcomes.{limit_in as limit_meant, server_name as name_meant, refusal_reply, found_reply, counted_reply, row_reply as reply_to_row, outcome_reply as reply_to_outcome, IsShowable};
 
 use crate::errors::{
     arithmetic, backend_refused, done, duplicate, limit, no_memory, out_of_range, shown, too_long,
 };
-use crate::results::shown_rows;
+use crate::results::{shown_cells, shown_rows};
 use conf_file::HostEntry;
+use front_rows::CellRow;
 use my_messages::Reply;
 use sql_values::{Row, TableDef};
 use std::alloc::{AllocError, Global};
-use stmt_plan::{Picks, RowFault};
+use stmt_plan::{AnswerColumns, RowFault};
 use txn_phases::{Outcome, Refusal};
 
 /// The number of want of memory.
@@ -58,15 +59,29 @@ fn refused(alloc: Global, servers: &[HostEntry], refusal: &Refusal) -> Result<Re
 fn found(
     alloc: Global,
     table: &TableDef,
-    picks: &Option<Picks>,
+    columns: &Option<AnswerColumns>,
     rows: &[Row],
 ) -> Result<Reply, AllocError>
-    ensures reply { IfOk result (λ reply. reply ≡ found_reply table.now picks.now rows.now) }
-    ensures bytes { IsShowable picks.now (Outcome.Found rows.now) → IfOk result HasBytes }
+    ensures reply { IfOk result (λ reply. reply ≡ found_reply table.now columns.now rows.now) }
+    ensures bytes { IsShowable columns.now (Outcome.Found rows.now) → IfOk result HasBytes }
 {
-    match picks {
-        Some(picks) => shown_rows(alloc, table, picks, rows),
-        None => Ok(done(0)),
+    match columns {
+        Some(AnswerColumns::Picks(picks)) => shown_rows(alloc, table, picks, rows),
+        Some(AnswerColumns::Cells(_)) | None => Ok(done(0)),
+    }
+}
+
+fn counted(
+    alloc: Global,
+    columns: &Option<AnswerColumns>,
+    cells: &CellRow,
+) -> Result<Reply, AllocError>
+    ensures reply { IfOk result (λ reply. reply ≡ counted_reply columns.now cells.now) }
+    ensures bytes { IsShowable columns.now (Outcome.Cells cells.now) → IfOk result HasBytes }
+{
+    match columns {
+        Some(AnswerColumns::Cells(list)) => shown_cells(alloc, list.as_slice(), cells),
+        Some(AnswerColumns::Picks(_)) | None => Ok(done(0)),
     }
 }
 
@@ -82,21 +97,22 @@ fn row_refused(alloc: Global, fault: &RowFault) -> Result<Reply, AllocError>
     }
 }
 
-/// The reply to a statement on this table: for a SELECT with the columns that it asks for, and none for one that writes.
+/// The reply to a statement on this table: for a SELECT with the columns or aggregates that it asks for, and none for one that writes.
 ///
 /// `servers` are all servers, by number.
 pub fn outcome_reply(
     alloc: Global,
     table: &TableDef,
-    picks: &Option<Picks>,
+    columns: &Option<AnswerColumns>,
     servers: &[HostEntry],
     outcome: &Outcome,
 ) -> Result<Reply, AllocError>
-    ensures reply { IfOk result (λ reply. reply ≡ reply_to_outcome table.now picks.now servers.now outcome.now) }
-    ensures bytes { IsShowable picks.now outcome.now → IfOk result HasBytes }
+    ensures reply { IfOk result (λ reply. reply ≡ reply_to_outcome table.now columns.now servers.now outcome.now) }
+    ensures bytes { IsShowable columns.now outcome.now → IfOk result HasBytes }
 {
     match outcome {
-        Outcome::Found(rows) => found(alloc, table, picks, rows.as_slice()),
+        Outcome::Found(rows) => found(alloc, table, columns, rows.as_slice()),
+        Outcome::Cells(cells) => counted(alloc, columns, cells),
         Outcome::Done(count) => Ok(done(*count)),
         Outcome::Duplicate(key) => duplicate(alloc, *key),
         Outcome::RowRefused(fault) => row_refused(alloc, fault),

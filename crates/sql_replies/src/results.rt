@@ -1,19 +1,20 @@
-//! Rows, with the definitions of their columns.
+//! Rows and aggregates, with the definitions of their columns.
 ghost use Rattle.std.specs.Prelude.{◌≡◌, ◌≤◌, ◌<◌, true, length, map, IfOk};
 ghost use Rattle.std.specs.Fmt.{signed_decimal};
 ghost use Rattle.std.specs.List.{list_all, AllByRecursion};
 ghost use Rattle.my_messages.specs.Reply.{HasBytes, DefinitionFits, RowFits, cell_bytes};
 ghost use Rattle.txn_phases.specs.Phases.{is_short};
 ghost use Rattle.sql_replies.specs.Errors.{shown as shown_text};
-ghost use Rattle.sql_replies.specs.Results.{charset_of, length_of, type_of, flags_of, kind_at as kind_meant, name_at as name_meant, column_of, text_of, cell_of, cells_of, rows_reply};
-ghost use Rattle.sql_replies.specs.Outcomes.{AreFewPicks, are_short_rows};
+ghost use Rattle.sql_replies.specs.Results.{charset_of, length_of, type_of, flags_of, kind_at as kind_meant, name_at as name_meant, column_of, text_of, cell_of, cells_of, rows_reply, shown_call as call_shown, result_type, result_charset, result_length, result_flags, cell_column_of, cells_reply};
+ghost use Rattle.sql_replies.specs.Outcomes.{AreFewPicks, AreFewCells, are_short_rows};
 
 use crate::errors::{AUTOCOMMIT, shown};
+use front_rows::{AggFun, Aggregate};
 use list_types::{Listed, Text};
 use my_messages::{Cell, CellRow, CellRows, Column, Columns, Reply};
 use sql_values::{ColumnDef, Kind, Name, Row, TableDef, Value};
 use std::alloc::{AllocError, Global};
-use stmt_plan::{Pick, Picks};
+use stmt_plan::{CellColumn, Pick, Picks};
 
 /// The character set number of UTF-8 texts.
 const UTF8: u16 = 45;
@@ -27,11 +28,17 @@ const BIGINT: u8 = 8;
 /// The type byte of a VARCHAR (`MYSQL_TYPE_VAR_STRING`).
 const VARCHAR: u8 = 0xfd;
 
+/// The type byte of a number of any length (`MYSQL_TYPE_NEWDECIMAL`).
+const DECIMAL: u8 = 0xf6;
+
 /// The flag of a column that holds no NULL (`NOT_NULL_FLAG`).
 const NOT_NULL: u16 = 1;
 
 /// The flags of the key column, which has `PRI_KEY_FLAG` too.
 const KEY: u16 = 3;
+
+/// The most bytes of a call's text.
+const LONGEST_CALL: usize = 134;
 
 fn charset(kind: Kind) -> u16
     ensures { result ≡ charset_of kind }
@@ -197,6 +204,106 @@ pub(crate) fn shown_rows(
     Ok(Reply::Rows {
         columns: columns(alloc, table, &picks.table, picks.picks.as_slice())?,
         rows: all_cells(alloc, rows, picks.picks.as_slice())?,
+        status: AUTOCOMMIT,
+    })
+}
+
+/// A call's text; nothing in place of one that is longer than any call's.
+fn shown_call(text: &str) -> &str
+    ensures text { result.now ≡ call_shown text.now }
+    ensures short { length result.now ≤ 134 }
+{
+    if text.len() <= LONGEST_CALL { text } else { "" }
+}
+
+fn result_byte(aggregate: &Aggregate) -> u8
+    ensures { result ≡ result_type aggregate.now.fun aggregate.now.kind }
+{
+    match aggregate.fun {
+        AggFun::Count => BIGINT,
+        AggFun::Sum => DECIMAL,
+        AggFun::Min | AggFun::Max => type_byte(aggregate.kind),
+    }
+}
+
+fn result_set(aggregate: &Aggregate) -> u16
+    ensures { result ≡ result_charset aggregate.now.fun aggregate.now.kind }
+{
+    match aggregate.fun {
+        AggFun::Count | AggFun::Sum => BINARY,
+        AggFun::Min | AggFun::Max => charset(aggregate.kind),
+    }
+}
+
+fn result_longest(aggregate: &Aggregate) -> u32
+    ensures { result ≡ result_length aggregate.now.fun aggregate.now.kind }
+{
+    match aggregate.fun {
+        AggFun::Count => 20,
+        AggFun::Sum => 41,
+        AggFun::Min | AggFun::Max => longest(aggregate.kind),
+    }
+}
+
+/// Only a count is never NULL.
+fn result_bits(fun: AggFun) -> u16
+    ensures { result ≡ result_flags fun }
+{
+    match fun {
+        AggFun::Count => NOT_NULL,
+        AggFun::Sum | AggFun::Min | AggFun::Max => 0,
+    }
+}
+
+/// A column of the answer that is no column of a table.
+fn cell_column(alloc: Global, column: &CellColumn) -> Result<Column, AllocError>
+    ensures column { IfOk result (λ shown. shown ≡ cell_column_of column.now) }
+    ensures fits { IfOk result DefinitionFits }
+{
+    Ok(Column {
+        schema: Text::from_str(alloc, "")?,
+        table: Text::from_str(alloc, "")?,
+        org_table: Text::from_str(alloc, "")?,
+        name: Text::from_str(alloc, shown_call(column.name.as_str()))?,
+        org_name: Text::from_str(alloc, "")?,
+        charset: result_set(&column.aggregate),
+        length: result_longest(&column.aggregate),
+        kind: result_byte(&column.aggregate),
+        flags: result_bits(column.aggregate.fun),
+    })
+}
+
+fn cell_columns(alloc: Global, list: &[CellColumn]) -> Result<Columns, AllocError>
+    ensures columns { IfOk result (λ columns. columns ≡ map cell_column_of list.now) }
+    ensures fit { IfOk result (AllByRecursion DefinitionFits) }
+{
+    let mut columns = Vec::with_capacity(alloc, list.len())?;
+    for column in list {
+        columns.push(cell_column(alloc, column)?)?;
+    }
+    Ok(Listed::from_vec(columns))
+}
+
+fn copied(cells: &CellRow) -> Result<CellRow, AllocError>
+    ensures { IfOk result (λ copy. copy ≡ cells.now) }
+{
+    cells.clone()
+}
+
+/// These aggregates, as one row.
+pub(crate) fn shown_cells(
+    alloc: Global,
+    columns: &[CellColumn],
+    cells: &CellRow,
+) -> Result<Reply, AllocError>
+    ensures reply { IfOk result (λ reply. reply ≡ cells_reply columns.now cells.now) }
+    ensures bytes { AreFewCells columns.now cells.now → IfOk result HasBytes }
+{
+    let mut rows = Listed::new(alloc);
+    rows.push(copied(cells)?)?;
+    Ok(Reply::Rows {
+        columns: cell_columns(alloc, columns)?,
+        rows,
         status: AUTOCOMMIT,
     })
 }

@@ -2,13 +2,14 @@
 
 use crate::*;
 use conf_file::HostEntry;
+use front_rows::{AggFun, Aggregate};
 use list_types::{Listed, Text};
-use my_messages::{Column, Reply};
+use my_messages::{CellRow, Column, Reply};
 use sql_text::ParseFault;
 use sql_values::{ColumnDef, Kind, Name, Rows, TableDef, Value};
 use std::alloc::Global;
 use std::test::Fail;
-use stmt_plan::{Pick, Picks, RowFault, StmtFault};
+use stmt_plan::{AnswerColumns, CellColumn, Pick, Picks, RowFault, StmtFault};
 use txn_phases::{Outcome, Refusal};
 
 // Nothing below promises anything to a proof: else each assertion's proof would look into its literals.
@@ -252,13 +253,13 @@ fn picks(alloc: Global) -> Result<Picks, Fail> {
 }
 
 /// The reply to a statement on t, by the server s1.
-fn reply(alloc: Global, picks: &Option<Picks>, outcome: &Outcome) -> Result<Reply, Fail> {
+fn reply(alloc: Global, columns: &Option<AnswerColumns>, outcome: &Outcome) -> Result<Reply, Fail> {
     let table = table(alloc)?;
     let servers = [HostEntry {
         name: text(alloc, "s1")?,
         address: text(alloc, "127.0.0.1:4501")?,
     }];
-    Ok(outcome_reply(alloc, &table, picks, &servers, outcome)?)
+    Ok(outcome_reply(alloc, &table, columns, &servers, outcome)?)
 }
 
 fn is_outcome_told(alloc: Global, case: usize, told: &Told) -> Result<bool, Fail> {
@@ -362,13 +363,107 @@ fn found(alloc: Global) -> Result<Rows, Fail> {
 }
 
 fn is_one_row(alloc: Global) -> Result<bool, Fail> {
-    let picks = Some(picks(alloc)?);
+    let columns = Some(AnswerColumns::Picks(picks(alloc)?));
     let outcome = Outcome::Found(found(alloc)?);
-    Ok(reply(alloc, &picks, &outcome)? == one_row(alloc)?)
+    Ok(reply(alloc, &columns, &outcome)? == one_row(alloc)?)
 }
 
 #[test]
 fn rows_are_told(rt: HostRuntime) -> Result<(), Fail> {
     assert!(rt; is_one_row(rt.alloc())?);
+    Ok(())
+}
+
+/// An aggregate over rows of t.
+fn aggregate(alloc: Global, aggregate: Aggregate, name: &str) -> Result<CellColumn, Fail> {
+    Ok(CellColumn {
+        aggregate,
+        name: text(alloc, name)?,
+    })
+}
+
+/// A function over the key column.
+fn of_keys(alloc: Global, fun: AggFun, name: &str) -> Result<CellColumn, Fail> {
+    let over = Aggregate {
+        fun,
+        column: 0,
+        kind: Kind::BigInt,
+    };
+    aggregate(alloc, over, name)
+}
+
+fn greatest_text(alloc: Global) -> Result<CellColumn, Fail> {
+    let over = Aggregate {
+        fun: AggFun::Max,
+        column: 1,
+        kind: Kind::VarChar(20),
+    };
+    aggregate(alloc, over, "MAX(v)")
+}
+
+/// What `SELECT COUNT(*), SUM(k) AS s, MAX(v) FROM t` asks for.
+fn aggregates(alloc: Global) -> Result<AnswerColumns, Fail> {
+    let mut list = Listed::new(alloc);
+    list.push(of_keys(alloc, AggFun::Count, "COUNT(*)")?)?;
+    list.push(of_keys(alloc, AggFun::Sum, "s")?)?;
+    list.push(greatest_text(alloc)?)?;
+    Ok(AnswerColumns::Cells(list))
+}
+
+/// What it finds over the keys -5 and 2, one text for both.
+fn totals(alloc: Global) -> Result<CellRow, Fail> {
+    let mut cells = Listed::new(alloc);
+    cells.push(Some(text(alloc, "2")?))?;
+    cells.push(Some(text(alloc, "-3")?))?;
+    cells.push(Some(text(alloc, "a")?))?;
+    Ok(cells)
+}
+
+/// A column that is none of a table.
+fn own_column(
+    alloc: Global,
+    name: &str,
+    charset: u16,
+    length: u32,
+    kind: u8,
+    flags: u16,
+) -> Result<Column, Fail> {
+    Ok(Column {
+        schema: text(alloc, "")?,
+        table: text(alloc, "")?,
+        org_table: text(alloc, "")?,
+        name: text(alloc, name)?,
+        org_name: text(alloc, "")?,
+        charset,
+        length,
+        kind,
+        flags,
+    })
+}
+
+/// The reply with these totals.
+fn told_totals(alloc: Global) -> Result<Reply, Fail> {
+    let mut columns = Listed::new(alloc);
+    columns.push(own_column(alloc, "COUNT(*)", 63, 20, 0x08, 1)?)?;
+    columns.push(own_column(alloc, "s", 63, 41, 0xF6, 0)?)?;
+    columns.push(own_column(alloc, "MAX(v)", 45, 80, 0xFD, 0)?)?;
+    let mut rows = Listed::new(alloc);
+    rows.push(totals(alloc)?)?;
+    Ok(Reply::Rows {
+        columns,
+        rows,
+        status: 2,
+    })
+}
+
+fn are_totals_told(alloc: Global) -> Result<bool, Fail> {
+    let columns = Some(aggregates(alloc)?);
+    let outcome = Outcome::Cells(totals(alloc)?);
+    Ok(reply(alloc, &columns, &outcome)? == told_totals(alloc)?)
+}
+
+#[test]
+fn aggregates_are_told(rt: HostRuntime) -> Result<(), Fail> {
+    assert!(rt; are_totals_told(rt.alloc())?);
     Ok(())
 }

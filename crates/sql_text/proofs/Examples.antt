@@ -14,8 +14,9 @@ use Rattle.sql_values.specs.declared.places.LockMode.TheVariants as locks
 use Rattle.sql_text.specs.Grammar.{addend}
 use Rattle.sql_text.specs.declared.statement.Statement.TheVariants as statements
 use Rattle.sql_text.specs.declared.statement.SelectItems.TheVariants as items
+use Rattle.sql_text.specs.declared.link.AggregateCall.TheVariants as calls
 use Rattle.sql_text.specs.Tokens.{placed_tokens, tokens_of}
-use Rattle.sql_text.specs.Reading.{statement_at, body_at, insert_at, expect, optional_at, table_at, column_list_at, literal_list_at, open_at, literal_at, name_at, select_at, select_items_at, item_at, column_at, alias_at, tab_at, where_at, locked_at, lock_at, for_update_at, cond_at, neg_at, comparison_at, behind_column_at, compared_at, operand_at, behind_not_at, ranged_at, plain_at, factor_at, expr_at, assignment_at, update_at, delete_at}
+use Rattle.sql_text.specs.Reading.{statement_at, body_at, insert_at, expect, optional_at, table_at, column_list_at, literal_list_at, open_at, literal_at, name_at, select_at, select_items_at, item_at, column_at, alias_at, tab_at, where_at, column_items_at, star_at, count_at, aggregate_at, aggregate_item_at, aggregate_items_at, direction_at, sort_at, sort_list_at, sorts_at, order_at, behind_count_at, counts_at, limits_at, limit_at, locked_at, lock_at, for_update_at, cond_at, neg_at, comparison_at, behind_column_at, compared_at, operand_at, behind_not_at, ranged_at, plain_at, factor_at, expr_at, assignment_at, update_at, delete_at}
 
 words : placed_tokens (codes "Select a_1, `b`.c FROM spider.t") ≡
     ((tokens.Fixed Select, 31) ∷ (tokens.Bare (codes "a_1"), 24) ∷ (tokens.Fixed Comma, 21) ∷ (tokens.Quoted (codes "b"), 19) ∷ (tokens.Fixed Dot, 16) ∷ (tokens.Bare (codes "c"), 15)
@@ -79,9 +80,11 @@ selected : statement_at 0 (tokens_of (codes "SELECT a AS x, t.b FROM spider.t u 
       items = items.Columns (record { column = bare (codes "a"); alias = Some (codes "x") } ∷ record { column = record { table = Some (codes "t"); column = codes "b" }; alias = None } ∷ []);
       tab = record { table = codes "t"; alias = Some (codes "u") };
       cond = Some (conds.Between (bare (codes "a")) true (literals.Number (negsuc 0)) (literals.Number (pos 2)));
+      order = [];
+      limit = None;
       lock = None;
     }))
-unfolding bare tokens_of placed_tokens statement_at body_at select_at select_items_at item_at column_at alias_at tab_at where_at locked_at cond_at neg_at comparison_at behind_column_at behind_not_at ranged_at expect optional_at table_at literal_at name_at
+unfolding bare tokens_of placed_tokens statement_at body_at select_at select_items_at column_items_at item_at column_at alias_at tab_at where_at order_at sorts_at limit_at limits_at locked_at cond_at neg_at comparison_at behind_column_at behind_not_at ranged_at expect optional_at table_at literal_at name_at
 selected = refl
 
 number : ℕ → Expr
@@ -112,6 +115,36 @@ unfolding tokens_of placed_tokens statement_at body_at delete_at where_at expect
 deleted = refl
 
 locked_for_update : statement_at 0 (tokens_of (codes "select * from t for update")) ≡
-    Ok (statements.Select (record { items = items.All; tab = record { table = codes "t"; alias = None }; cond = None; lock = Some locks.Exclusive }))
-unfolding tokens_of placed_tokens statement_at body_at select_at select_items_at alias_at tab_at where_at locked_at lock_at for_update_at expect optional_at table_at name_at
+    Ok (statements.Select (record { items = items.All; tab = record { table = codes "t"; alias = None }; cond = None; order = []; limit = None; lock = Some locks.Exclusive }))
+unfolding tokens_of placed_tokens statement_at body_at select_at select_items_at alias_at tab_at where_at order_at sorts_at limit_at limits_at locked_at lock_at for_update_at expect optional_at table_at name_at
 locked_for_update = refl
+
+-- rows are sorted rising where nothing else stands there; of two counts with a comma the first is the offset
+ordered : statement_at 0 (tokens_of (codes "select * from t order by t.v desc, k asc, w limit 5, 2")) ≡
+    Ok (statements.Select (record {
+      items = items.All;
+      tab = record { table = codes "t"; alias = None };
+      cond = None;
+      order = record { column = record { table = Some (codes "t"); column = codes "v" }; rising = false } ∷ record { column = bare (codes "k"); rising = true } ∷ record { column = bare (codes "w"); rising = true } ∷ [];
+      limit = Some (record { count = 2; offset = 5 });
+      lock = None;
+    }))
+unfolding bare tokens_of placed_tokens statement_at body_at select_at select_items_at column_at alias_at tab_at where_at order_at sorts_at sort_list_at sort_at direction_at limit_at limits_at counts_at behind_count_at locked_at expect optional_at table_at name_at
+ordered = refl
+
+counted : statement_at 1 (tokens_of (codes "SELECT count(*) n, Max(t.v) FROM t")) ≡
+    Ok (statements.Select (record {
+      items = items.Aggregates (record { call = calls.Count; alias = Some (codes "n") } ∷ record { call = calls.Max (record { table = Some (codes "t"); column = codes "v" }); alias = None } ∷ []);
+      tab = record { table = codes "t"; alias = None };
+      cond = None;
+      order = [];
+      limit = None;
+      lock = None;
+    }))
+unfolding tokens_of placed_tokens statement_at body_at select_at select_items_at aggregate_items_at aggregate_item_at aggregate_at count_at star_at open_at column_at alias_at tab_at where_at order_at limit_at locked_at expect optional_at table_at name_at
+counted = refl
+
+-- aggregates are neither sorted nor limited
+sorted_aggregates : statement_at 1 (tokens_of (codes "SELECT COUNT(*) FROM t ORDER BY v")) ≡ Err (record { deep = false; left = 3 })
+unfolding tokens_of placed_tokens statement_at body_at select_at select_items_at aggregate_items_at aggregate_item_at aggregate_at count_at star_at open_at alias_at tab_at where_at order_at limit_at locked_at expect optional_at table_at name_at
+sorted_aggregates = refl

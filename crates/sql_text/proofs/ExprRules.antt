@@ -1,17 +1,17 @@
 -- Each reading function of expressions reads its rule.
-use Rattle.std.proofs.Common.{◌≡◌, ℕ, zero, suc, Bool, true, false, cond, List, [], ◌∷◌, ◌++◌, Some, length, Result, Ok, Err, refl, sym, ap, ◌∙◌, inl, inr}
+use Rattle.std.proofs.Common.{◌≡◌, ℕ, zero, suc, Bool, true, false, cond, List, [], ◌∷◌, ◌++◌, length, Result, Ok, Err, refl, ap, ◌∙◌, inl, inr}
 use Rattle.std.specs.Prelude.{is_some}
 use Rattle.sql_values.specs.declared.tree.Expr.{Expr}
 use Rattle.sql_values.specs.declared.tree.Expr.TheVariants as exprs
 use Rattle.sql_values.specs.declared.tree.Addend.{Addend}
 use Rattle.sql_text.specs.declared.token.Fixed.{Fixed}
-use Rattle.sql_text.specs.declared.token.Fixed.TheVariants.{And, As, Between, Delete, For, From, In, Insert, Into, Lock, Mode, Not, Null, Or, Select, Set, Share, Update, Values, Where, By, Commit, Count, End, Limit, Max, Min, Order, Prepare, Recover, Replace, Rollback, Start, Sum, Xa, Open, Close, Comma, Dot, Star, Plus, Minus, Semicolon, Equal, NotEqual, Less, AtMost, Greater, AtLeast}
+use Rattle.sql_text.specs.declared.token.Fixed.TheVariants.{And, As, Asc, Between, By, Count, Delete, Desc, For, From, In, Insert, Into, Limit, Lock, Max, Min, Mode, Not, Null, Offset, Or, Order, Select, Set, Share, Sum, Update, Values, Where, Commit, End, Prepare, Recover, Replace, Rollback, Start, Xa, Open, Close, Comma, Dot, Star, Plus, Minus, Semicolon, Equal, NotEqual, Less, AtMost, Greater, AtLeast}
 use Rattle.sql_text.specs.declared.token.Token.{Token}
 use Rattle.sql_text.specs.declared.token.Token.TheVariants as tokens
 use Rattle.sql_text.specs.declared.fault.Stop.{Stop}
 use Rattle.sql_text.specs.Rules.{is, one, ◌⊳◌, ◌▷◌, ◌∣◌, opens, many, series}
 use Rattle.sql_text.specs.Grammar.{literal_of, sign_of, literal, column, joined, plain_expr, term_over, addend, addend_over, summed, expr_over, factor, expr}
-use Rattle.sql_text.specs.Reading.{◌>>=◌, number_of, stands, begins, behind, expect, open_at, too_deep, one_at, literal_at, column_at, with_front, many_at, plain_at, term_by, addend_by, sum_by, expr_by, closed_expr_by, factor_at, expr_at}
+use Rattle.sql_text.specs.Reading.{◌>>=◌, number_of, stands, begins, behind, open_at, too_deep, one_at, literal_at, column_at, with_front, many_at, plain_at, term_by, addend_by, sum_by, expr_by, closed_expr_by, factor_at, expr_at}
 use Rattle.sql_text.proofs.Fields.{Reads, Rules, kind_of, member, Some_text, IsField, is_field, one_field}
 use Rattle.sql_text.proofs.Choices.{Tells, begins_tells, same_reader, same_rule, either_field}
 use Rattle.sql_text.proofs.Nested.{zero_field, suc_field, many_field, series_field}
@@ -25,6 +25,9 @@ sign_kinds = 47 ∷ 48 ∷ []
 sign_tells_fixed : (f : Fixed) → is_some (sign_of (tokens.Fixed f)) ≡ member (number_of f) sign_kinds
 sign_tells_fixed And = refl
 sign_tells_fixed As = refl
+sign_tells_fixed Asc = refl
+sign_tells_fixed Desc = refl
+sign_tells_fixed Offset = refl
 sign_tells_fixed Between = refl
 sign_tells_fixed Delete = refl
 sign_tells_fixed For = refl

@@ -7,7 +7,7 @@ use Rattle.sql_text.specs.declared.token.Token.{Token}
 use Rattle.sql_text.specs.declared.token.Token.TheVariants as tokens
 use Rattle.sql_text.specs.declared.fault.Stop.{Stop}
 use Rattle.sql_text.specs.Rules.{Rule, is, one, ◌⊳◌, ◌▷◌}
-use Rattle.sql_text.specs.declared.token.Fixed.TheVariants.{And, As, Between, Delete, For, From, In, Insert, Into, Lock, Mode, Not, Null, Or, Select, Set, Share, Update, Values, Where, By, Commit, Count, End, Limit, Max, Min, Order, Prepare, Recover, Replace, Rollback, Start, Sum, Xa, Open, Close, Comma, Dot, Star, Plus, Minus, Semicolon, Equal, NotEqual, Less, AtMost, Greater, AtLeast}
+use Rattle.sql_text.specs.declared.token.Fixed.TheVariants.{And, As, Asc, Between, By, Count, Delete, Desc, For, From, In, Insert, Into, Limit, Lock, Max, Min, Mode, Not, Null, Offset, Or, Order, Select, Set, Share, Sum, Update, Values, Where, Commit, End, Prepare, Recover, Replace, Rollback, Start, Xa, Open, Close, Comma, Dot, Star, Plus, Minus, Semicolon, Equal, NotEqual, Less, AtMost, Greater, AtLeast}
 use Rattle.sql_text.specs.Places.{is_opening}
 use Rattle.sql_text.specs.Reading.{◌>>=◌, number_of, syntax, value_before, one_at, expect, is_fixed}
 
@@ -277,7 +277,7 @@ pub expected : (f : Fixed) (ts : List Token) → expect f (tokens.Fixed f ∷ ts
 unfolding expect
 expected f ts = let e : (number_of f == number_of f) ≡ true = grind (arith, nat_tests) in rw e refl
 
-pub number_below : (f : Fixed) → number_of f < 49
+pub number_below : (f : Fixed) → number_of f < 52
 number_below And = omega arith
 number_below As = omega arith
 number_below Between = omega arith
@@ -327,6 +327,9 @@ number_below Xa = omega arith
 number_below Set = omega arith
 number_below Plus = omega arith
 number_below Minus = omega arith
+number_below Asc = omega arith
+number_below Desc = omega arith
+number_below Offset = omega arith
 
 -- what a keyword's number stands for
 named : ℕ → Fixed
@@ -337,7 +340,8 @@ named n =
     else (if n == 21 then Less else (if n == 22 then AtMost else (if n == 23 then Greater else (if n == 24 then AtLeast else (if n == 25 then By
     else (if n == 26 then Commit else (if n == 27 then Count else (if n == 28 then Delete else (if n == 29 then End else (if n == 30 then For else (if n == 31 then Limit else (if n == 32 then Lock else
     (if n == 33 then Max else (if n == 34 then Min else (if n == 35 then Mode else (if n == 36 then Order else (if n == 37 then Prepare else (if n == 38 then Recover else (if n == 39 then Replace else
-    (if n == 40 then Rollback else (if n == 41 then Share else (if n == 42 then Start else (if n == 43 then Sum else (if n == 44 then Update else (if n == 45 then Xa else (if n == 46 then Set else (if n == 47 then Plus else Minus)))))))))))))))))))))))))))))))))))))))))))))))
+    (if n == 40 then Rollback else (if n == 41 then Share else (if n == 42 then Start else (if n == 43 then Sum else (if n == 44 then Update else (if n == 45 then Xa else (if n == 46 then Set else (if n == 47 then Plus else
+    (if n == 48 then Minus else (if n == 49 then Asc else (if n == 50 then Desc else Offset))))))))))))))))))))))))))))))))))))))))))))))))))
 
 named_number : (f : Fixed) → named (number_of f) ≡ f
 unfolding named
@@ -390,6 +394,9 @@ named_number Xa = refl
 named_number Set = refl
 named_number Plus = refl
 named_number Minus = refl
+named_number Asc = refl
+named_number Desc = refl
+named_number Offset = refl
 
 pub is_fixed_is : (f : Fixed) (t : Token) → is_fixed f t ≡ true → t ≡ tokens.Fixed f
 is_fixed_is f (tokens.Fixed g) h =

@@ -13,7 +13,7 @@ use Rattle.std.proofs.lemmas.Bool.Decides.{nat_tests}
 use Rattle.std.proofs.Common.{rules}
 use Rattle.sql_values.specs.Names.{is_name, begins_name, continues_name}
 use Rattle.sql_text.specs.declared.token.Fixed.{Fixed}
-use Rattle.sql_text.specs.declared.token.Fixed.TheVariants.{And, As, Between, Delete, For, From, In, Insert, Into, Lock, Mode, Not, Null, Or, Select, Set, Share, Update, Values, Where, Open, Close, Comma, Dot, Star, Plus, Minus, Equal, NotEqual, Less, AtMost, Greater, AtLeast}
+use Rattle.sql_text.specs.declared.token.Fixed.TheVariants.{And, As, Between, By, Count, Delete, Desc, For, From, In, Insert, Into, Limit, Lock, Max, Min, Mode, Not, Null, Offset, Or, Order, Select, Set, Share, Sum, Update, Values, Where, Open, Close, Comma, Dot, Star, Plus, Minus, Equal, NotEqual, Less, AtMost, Greater, AtLeast}
 use Rattle.sql_values.specs.declared.tree.Comparison.{Comparison}
 use Rattle.sql_values.specs.declared.tree.Comparison.TheVariants as comparisons
 use Rattle.sql_text.specs.Grammar.{comparison_of}
@@ -23,7 +23,7 @@ use Rattle.sql_text.specs.Tokens.{run, value_after, digits_token, signed_token, 
 use Rattle.sql_text.specs.Printing.{escaped, quoted, name_text, comparison_text}
 use Rattle.sql_text.proofs.Fields.{and_true}
 use Rattle.sql_text.proofs.Bytes.{name_utf8}
-use Rattle.sql_text.proofs.Written.{Has, has_token, has_symbol, has_blank, apart_from, behind_token, Stops, AtomAt, Atom, Suffix, PrefixAt, Prefix, SeparatorAt, Separator, prefix_atom, prefix_prefix, separator_atom}
+use Rattle.sql_text.proofs.Written.{Has, has_token, has_symbol, has_blank, apart_from, behind_token, Stops, AtomAt, Atom, Suffix, PrefixAt, Prefix, SeparatorAt, Separator, prefix_atom, prefix_prefix, separator_atom, separator_prefix}
 
 -- NAMES
 
@@ -453,6 +453,54 @@ module _ (change : Token → Token) (fixes : Fixes change) where
   comparison_sign comparisons.AtMost = (AtMost, refl, spaced 60 (61 ∷ []) AtMost (λ operand rest. refl) refl refl)
   comparison_sign comparisons.Greater = (Greater, refl, spaced 62 [] Greater (λ operand rest. refl) refl refl)
   comparison_sign comparisons.AtLeast = (AtLeast, refl, spaced 62 (61 ∷ []) AtLeast (λ operand rest. refl) refl refl)
+
+  -- THE WORDS OF ORDER BY AND LIMIT
+
+  pub order_by : (Separator change) (codes " ORDER BY ") (tokens.Fixed Order ∷ tokens.Fixed By ∷ [])
+  order_by =
+      (separator_prefix change) (codes " ORDER ") (codes "BY ") (tokens.Fixed Order ∷ []) (tokens.Fixed By ∷ [])
+      (spaced 79 (codes "RDER") Order (λ operand rest. refl) refl refl)
+      (leading {operand = false} 66 (codes "Y") By (λ operand rest. refl) refl refl)
+
+  pub falling : (Suffix change) (codes " DESC") (tokens.Fixed Desc ∷ [])
+  falling = record {
+    reads = λ before rest more stops again.
+        has_blank change before (68 ∷ 69 ∷ 83 ∷ 67 ∷ rest) (tokens.Fixed Desc ∷ more)
+        ((word_atom before.operand 68 (codes "ESC") Desc (λ rest stops. ap seen (keyword_at (codes "DESC") rest Desc refl refl stops)) refl).reads rest more stops again);
+    stops = λ rest h. refl;
+    utf8 = plain_utf8 (codes " DESC") refl;
+  }
+
+  pub limit_word : (Separator change) (codes " LIMIT ") (tokens.Fixed Limit ∷ [])
+  limit_word = spaced 76 (codes "IMIT") Limit (λ operand rest. refl) refl refl
+
+  pub offset_word : (Separator change) (codes " OFFSET ") (tokens.Fixed Offset ∷ [])
+  offset_word = spaced 79 (codes "FFSET") Offset (λ operand rest. refl) refl refl
+
+  -- THE WORDS OF AGGREGATES
+
+  -- a word and the parenthesis behind it
+  opened_word : (c : ℕ) (cs : List ℕ) (f : Fixed) → ((rest : List ℕ) → lexeme_at false (c ∷ (cs ++ (40 ∷ rest))) ≡ (Some (tokens.Fixed f), 40 ∷ rest)) → ends_operand (tokens.Fixed f) ≡ false → is_plain (c ∷ (cs ++ (40 ∷ []))) ≡ true
+      → (Prefix change) (c ∷ (cs ++ (40 ∷ []))) (tokens.Fixed f ∷ tokens.Fixed Open ∷ [])
+  opened_word c cs f e ends u = record {
+    reads = λ rest more again.
+        let opened : Has change (behind_token c false) (40 ∷ rest) (tokens.Fixed Open ∷ more) = open_symbol.reads (behind_token c false) rest more again in
+        subst (λ (l : List ℕ). Has change (apart_from false) (c ∷ l) (tokens.Fixed f ∷ tokens.Fixed Open ∷ more)) (sym (append_assoc cs (40 ∷ []) rest))
+        (has_token change (apart_from false) c (cs ++ (40 ∷ rest)) (tokens.Fixed f) (tokens.Fixed f) false (40 ∷ rest) (tokens.Fixed Open ∷ more) (fixes.fixed f) refl (e rest) refl ends (length_later cs (40 ∷ rest)) opened);
+    utf8 = plain_utf8 (c ∷ (cs ++ (40 ∷ []))) u;
+  }
+
+  pub count_open : (Prefix change) (codes "COUNT(") (tokens.Fixed Count ∷ tokens.Fixed Open ∷ [])
+  count_open = opened_word 67 (codes "OUNT") Count (λ rest. refl) refl refl
+
+  pub sum_open : (Prefix change) (codes "SUM(") (tokens.Fixed Sum ∷ tokens.Fixed Open ∷ [])
+  sum_open = opened_word 83 (codes "UM") Sum (λ rest. refl) refl refl
+
+  pub min_open : (Prefix change) (codes "MIN(") (tokens.Fixed Min ∷ tokens.Fixed Open ∷ [])
+  min_open = opened_word 77 (codes "IN") Min (λ rest. refl) refl refl
+
+  pub max_open : (Prefix change) (codes "MAX(") (tokens.Fixed Max ∷ tokens.Fixed Open ∷ [])
+  max_open = opened_word 77 (codes "AX") Max (λ rest. refl) refl refl
 
   -- THE WORDS OF LOCKS
 

@@ -21,6 +21,8 @@ pub mod Respelled
 pub mod RespelledTests
 pub mod RespelledConds
 pub mod RespelledExprs
+pub mod RespelledAggregates
+pub mod RespelledOrders
 pub mod RespelledStatements
 pub mod Printed
 pub mod LinkWords

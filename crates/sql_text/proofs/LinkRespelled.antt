@@ -1,6 +1,6 @@
 -- What is printed of a request has tokens that spell it.
-use Rattle.std.proofs.Common.{◌≡◌, ℕ, ℤ, pos, negsuc, zero, suc, ◌<◌, ◌^◌, map, List, [], ◌∷◌, ◌++◌, length, Bool, true, false, cond, Option, Some, None, refl, sym, subst, ◌∙◌, arith, inl, inr, codes}
-use Rattle.std.specs.Prelude.{nat_lt, nat_le}
+use Rattle.std.proofs.Common.{◌≡◌, ℕ, ℤ, pos, negsuc, ◌<◌, ◌^◌, map, List, [], ◌∷◌, ◌++◌, length, Bool, true, false, cond, Option, Some, None, refl, sym, subst, arith, inl, inr, codes}
+use Rattle.std.specs.Prelude.{nat_le}
 use Rattle.std.specs.List.{flat_map}
 use Rattle.std.specs.Str.{IsUtf8}
 use Rattle.std.specs.Fmt.{signed_decimal}
@@ -10,28 +10,27 @@ use Rattle.sql_values.specs.Expressions.{is_big_int, big_int}
 use Rattle.sql_values.specs.declared.value.Value.{Value}
 use Rattle.sql_values.specs.declared.value.Value.TheVariants as values
 use Rattle.sql_values.specs.declared.places.Xid.{Xid}
-use Rattle.sql_values.specs.declared.tree.ColumnName.{ColumnName}
 use Rattle.sql_text.specs.declared.link.LinkRequest.{LinkRequest}
 use Rattle.sql_text.specs.declared.link.LinkRequest.TheVariants as requests
 use Rattle.sql_text.specs.declared.link.ScanItems.{ScanItems}
 use Rattle.sql_text.specs.declared.link.ScanItems.TheVariants as scanned
-use Rattle.sql_text.specs.declared.link.AggregateCall.{AggregateCall}
-use Rattle.sql_text.specs.declared.link.AggregateCall.TheVariants as calls
 use Rattle.sql_text.specs.declared.token.Fixed.{Fixed}
-use Rattle.sql_text.specs.declared.token.Fixed.TheVariants.{And, Between, Delete, From, In, Into, Select, Values, Where, Open, Close, Comma, Star, Semicolon, By, Commit, Count, End, Limit, Max, Min, Order, Prepare, Recover, Replace, Rollback, Start, Sum, Xa}
+use Rattle.sql_text.specs.declared.token.Fixed.TheVariants.{And, Between, By, Delete, From, In, Into, Limit, Order, Select, Values, Where, Commit, End, Prepare, Recover, Replace, Rollback, Start, Xa, Open, Close, Comma, Star, Semicolon}
 use Rattle.sql_text.specs.declared.token.Token.{Token}
 use Rattle.sql_text.specs.declared.token.Token.TheVariants as tokens
-use Rattle.sql_text.specs.Rules.{Rule, is, one, ◌⊳◌, ◌▷◌, ◌∣◌, series, at_most_further, parenthesized, optional}
+use Rattle.sql_text.specs.Rules.{Rule, is, one, ◌⊳◌, ◌▷◌, ◌∣◌, series, at_most_further, optional}
 use Rattle.sql_text.specs.Tokens.{Placed, as_link, worded, link_word, tokens_of, link_tokens_of, placed_tokens}
-use Rattle.sql_text.specs.Grammar.{name, column, lock}
-use Rattle.sql_text.specs.LinkGrammar.{key_of, as_number, value_of, count_of, part_of, xid, branch, of_column, aggregate, scan_items, order, limit, scan, row, put, keys, delete, request, most_link_openings, IsRequest}
-use Rattle.sql_text.specs.Printing.{quoted, name_text, joined_text, column_text, where_text, lock_text}
-use Rattle.sql_text.specs.LinkPrinting.{xid_text, value_text, row_text, call_text, scan_items_text, order_text, limit_text, link_printed}
-use Rattle.sql_text.proofs.Written.{AtomAt, Atom, Suffix, PrefixAt, Prefix, prefix_of, closing_of, nothing_behind, atom_suffix, prefix_atom, separator_atom, suffix_suffix, separator_alone, atom_tokens}
+use Rattle.sql_text.specs.Grammar.{count_of, name, aggregate, lock}
+use Rattle.sql_text.specs.LinkGrammar.{key_of, as_number, value_of, part_of, xid, branch, scan_items, order, limit, scan, row, put, keys, delete, request, most_link_openings, IsRequest}
+use Rattle.sql_text.specs.Printing.{quoted, name_text, joined_text, call_text, where_text, lock_text}
+use Rattle.sql_text.specs.LinkPrinting.{xid_text, value_text, row_text, scan_items_text, order_text, limit_text, link_printed}
+use Rattle.sql_text.proofs.Written.{AtomAt, Suffix, PrefixAt, prefix_of, nothing_behind, atom_suffix, prefix_atom, separator_atom, suffix_suffix, separator_alone, atom_tokens}
 use Rattle.sql_text.proofs.Lexemes as lexemes
 use Rattle.sql_text.proofs.Sound.{Sound, Sounds, escapes_utf8, tokens_sound}
 use Rattle.sql_text.proofs.Told.{Told, Respells, first_sound, second_sound, mapped, unmapped, retold}
-use Rattle.sql_text.proofs.Respelled.{name_told, name_told_at, column_told, series_told, few_told, enclosed_told}
+use Rattle.sql_text.proofs.Respelled.{name_told, series_told, few_told, enclosed_told}
+use Rattle.sql_text.proofs.RespelledAggregates.{aggregate_told}
+use Rattle.sql_text.proofs.RespelledOrders.{count_told}
 use Rattle.sql_text.proofs.RespelledStatements.{where_told, lock_told}
 use Rattle.sql_text.proofs.LinkWords as words
 use Rattle.sql_text.proofs.LinkWords.{link_fixes}
@@ -232,62 +231,14 @@ branch_told r ts (rest, e, h) sound =
 
 -- ---- scans
 
--- a column in parentheses, behind a word
-called_told : (f : Fixed) (of : ColumnName → AggregateCall) (word : List ℕ) (depth : ℕ) → Prefix as_link word (tokens.Fixed f ∷ tokens.Fixed Open ∷ []) → (a : AggregateCall) (ts : List Token) → (f ⊳ of_column of depth) a ts → Sounds ts
-    → (c : ColumnName) × (a ≡ of c) × Told Texts (f ⊳ of_column of depth) (of c) (word ++ (column_text c ++ codes ")"))
-called_told f of word depth p a ts (rest, e, h) sound =
-    let inner : Sounds rest = (let k : Sounds (tokens.Fixed f ∷ rest) = subst Sounds e sound in k.1) in
-    let u = unmapped (parenthesized column depth) of a rest h in
-    let c = enclosed_told as_link link_fixes column column_text (column_told as_link link_fixes) depth u.0 rest u.2 inner in
-    let list : List Token = c.0 ++ (tokens.Fixed Close ∷ []) in (
-      u.0,
-      u.1,
-      (
-        tokens.Fixed f ∷ tokens.Fixed Open ∷ list,
-        (tokens.Fixed Open ∷ list, refl, mapped (parenthesized column depth) (λ k. is (of k)) u.0 (of u.0) (tokens.Fixed Open ∷ list) c.1 (refl, refl)),
-        prefix_atom as_link word (column_text u.0 ++ codes ")") (tokens.Fixed f ∷ tokens.Fixed Open ∷ []) list p c.2,
-      ),
-    )
-
-star_close : Texts (codes "*)") (tokens.Fixed Star ∷ tokens.Fixed Close ∷ [])
-star_close =
-    atom_suffix as_link (codes "*") (codes ")") (tokens.Fixed Star ∷ []) (tokens.Fixed Close ∷ []) (separator_alone as_link (codes "*") (tokens.Fixed Star ∷ []) (lexemes.star_symbol as_link link_fixes))
-    (closing_of as_link (codes ")") (tokens.Fixed Close ∷ []) (lexemes.close_symbol as_link link_fixes))
-
-counted_told : (depth : ℕ) (a : AggregateCall) (ts : List Token) → parenthesized (Star ⊳ is calls.Count) depth a ts → Told Texts (Count ⊳ parenthesized (Star ⊳ is calls.Count) depth) a (call_text a)
-counted_told zero a ts h = absurd h
-counted_told (suc depth) a ts (rest, e, (b, s)) =
-    let same : a ≡ calls.Count = s.second.2.0 ∙ s.first.2.0 in
-    retold Texts (Count ⊳ parenthesized (Star ⊳ is calls.Count) (suc depth)) call_text a calls.Count same (
-      tokens.Fixed Count ∷ tokens.Fixed Open ∷ tokens.Fixed Star ∷ tokens.Fixed Close ∷ [],
-      (
-        tokens.Fixed Open ∷ tokens.Fixed Star ∷ tokens.Fixed Close ∷ [],
-        refl,
-        (tokens.Fixed Star ∷ tokens.Fixed Close ∷ [], refl, (calls.Count, record { front = tokens.Fixed Star ∷ []; rest = tokens.Fixed Close ∷ []; whole = refl; first = ([], refl, (refl, refl)); second = ([], refl, (refl, refl)) })),
-      ),
-      prefix_atom as_link (codes "COUNT(") (codes "*)") (tokens.Fixed Count ∷ tokens.Fixed Open ∷ []) (tokens.Fixed Star ∷ tokens.Fixed Close ∷ []) words.count_open star_close,
-    )
-
-aggregate_told : (depth : ℕ) → Respells Texts (aggregate depth) call_text
-aggregate_told depth a ts (inl h) sound = let c = counted_told depth a h.0 h.2 in (c.0, inl c.1, c.2)
-aggregate_told depth a ts (inr (inl h)) sound =
-    let c = called_told Sum calls.Sum (codes "SUM(") depth words.sum_open a ts h sound in
-    retold Texts (aggregate depth) call_text a (calls.Sum c.0) c.1 (c.2.0, inr (inl c.2.1), c.2.2)
-aggregate_told depth a ts (inr (inr (inl h))) sound =
-    let c = called_told Min calls.Min (codes "MIN(") depth words.min_open a ts h sound in
-    retold Texts (aggregate depth) call_text a (calls.Min c.0) c.1 (c.2.0, inr (inr (inl c.2.1)), c.2.2)
-aggregate_told depth a ts (inr (inr (inr h))) sound =
-    let c = called_told Max calls.Max (codes "MAX(") depth words.max_open a ts h sound in
-    retold Texts (aggregate depth) call_text a (calls.Max c.0) c.1 (c.2.0, inr (inr (inr c.2.1)), c.2.2)
-
 items_told : (depth : ℕ) → Respells Texts (scan_items depth) scan_items_text
 items_told depth i ts (inl (rest, e, h)) sound =
     retold Texts (scan_items depth) scan_items_text i scanned.All h.0
     (tokens.Fixed Star ∷ [], inl ([], refl, (refl, refl)), separator_alone as_link (codes "*") (tokens.Fixed Star ∷ []) (lexemes.star_symbol as_link link_fixes))
 items_told depth i ts (inr (x, s)) sound =
     let u = unmapped (at_most_further 999 Comma (aggregate depth)) (λ l. scanned.Aggregates (x ∷ l)) i s.rest s.second in
-    let a = aggregate_told depth x s.front s.first (first_sound s sound) in
-    let b = few_told as_link link_fixes 999 Comma (aggregate depth) call_text (codes ", ") (lexemes.spaced_comma as_link link_fixes) (aggregate_told depth) u.0 s.rest u.2 (second_sound s sound) in
+    let a = aggregate_told as_link link_fixes depth x s.front s.first (first_sound s sound) in
+    let b = few_told as_link link_fixes 999 Comma (aggregate depth) call_text (codes ", ") (lexemes.spaced_comma as_link link_fixes) (aggregate_told as_link link_fixes depth) u.0 s.rest u.2 (second_sound s sound) in
     retold Texts (scan_items depth) scan_items_text i (scanned.Aggregates (x ∷ u.0)) u.1 (
       a.0 ++ b.0,
       inr (x, record { front = a.0; rest = b.0; whole = refl; first = a.1; second = mapped (at_most_further 999 Comma (aggregate depth)) (λ l. is (scanned.Aggregates (x ∷ l))) u.0 (scanned.Aggregates (x ∷ u.0)) b.0 b.1 (refl, refl) }),
@@ -299,42 +250,22 @@ order_told scanned.All o ts (rest, e, (more, f, h)) sound =
     let outer : Sounds rest = (let k : Sounds (tokens.Fixed Order ∷ rest) = subst Sounds e sound in k.1) in
     let inner : Sounds more = (let k : Sounds (tokens.Fixed By ∷ more) = subst Sounds f outer in k.1) in
     let u = unmapped name Some o more h in
-    let a = name_told_at as_link link_fixes true u.0 more u.2 inner in
+    let a = name_told as_link link_fixes u.0 more u.2 inner in
     retold Ends (order scanned.All) order_text o (Some u.0) u.1 (
       tokens.Fixed Order ∷ tokens.Fixed By ∷ a.0,
       (tokens.Fixed By ∷ a.0, refl, (a.0, refl, mapped name (λ k. is (Some k)) u.0 (Some u.0) a.0 a.1 (refl, refl))),
-      separator_atom as_link (codes " ORDER BY ") (name_text u.0) (tokens.Fixed Order ∷ tokens.Fixed By ∷ []) a.0 words.order_by a.2,
+      separator_atom as_link (codes " ORDER BY ") (name_text u.0) (tokens.Fixed Order ∷ tokens.Fixed By ∷ []) a.0 (lexemes.order_by as_link link_fixes) a.2,
     )
 order_told (scanned.Aggregates l) o ts h sound = retold Ends (order (scanned.Aggregates l)) order_text o None h.0 ([], (refl, refl), nothing_behind as_link)
-
-count_case : (k n : ℕ) (b : Bool) → nat_lt k (2 ^ 64) ≡ b → cond b (Some k) None ≡ Some n → (k ≡ n) × (nat_lt k (2 ^ 64) ≡ true)
-count_case k n true e h = (cc, e)
-count_case k n false e h = absurd cc
-
-counts : (n : ℕ) → nat_lt n (2 ^ 64) ≡ true → Told (TextsAt true) (one count_of) n (signed_decimal (pos n))
-counts n h =
-    let small : n < 2 ^ 64 = grind (arith, nat_tests) in
-    (tokens.Digits (pos n) ∷ [], (tokens.Digits (pos n), refl, rw h refl), lexemes.digits_atom as_link link_fixes true n (omega arith))
-
--- it stands behind LIMIT
-count_by : (t : Token) (n : ℕ) → count_of t ≡ Some n → Told (TextsAt true) (one count_of) n (signed_decimal (pos n))
-count_by (tokens.Digits (pos k)) n h = let c = count_case k n (nat_lt k (2 ^ 64)) refl h in subst (λ m. Told (TextsAt true) (one count_of) m (signed_decimal (pos m))) c.0 (counts k c.1)
-count_by (tokens.Digits (negsuc k)) n h = absurd cc
-count_by (tokens.Text t) n h = absurd cc
-count_by (tokens.Fixed f) n h = absurd cc
-count_by (tokens.Bare m) n h = absurd cc
-count_by (tokens.Quoted m) n h = absurd cc
-count_by (tokens.Signed m) n h = absurd cc
-count_by tokens.Bad n h = absurd cc
 
 limit_told : Respells Ends limit limit_text
 limit_told l ts (inl (rest, e, h)) sound =
     let u = unmapped (one count_of) Some l rest h in
-    let a = count_by u.2.0 u.0 u.2.2 in
+    let a = count_told as_link link_fixes u.0 rest u.2 in
     retold Ends limit limit_text l (Some u.0) u.1 (
       tokens.Fixed Limit ∷ a.0,
       inl (a.0, refl, mapped (one count_of) (λ n. is (Some n)) u.0 (Some u.0) a.0 a.1 (refl, refl)),
-      separator_atom as_link (codes " LIMIT ") (signed_decimal (pos u.0)) (tokens.Fixed Limit ∷ []) a.0 words.limit_word a.2,
+      separator_atom as_link (codes " LIMIT ") (signed_decimal (pos u.0)) (tokens.Fixed Limit ∷ []) a.0 (lexemes.limit_word as_link link_fixes) a.2,
     )
 limit_told l ts (inr h) sound = retold Ends limit limit_text l None h.0 ([], inr (refl, refl), nothing_behind as_link)
 

@@ -3,26 +3,24 @@ use Rattle.std.proofs.Common.{◌≡◌, ℕ, ℤ, pos, Bool, true, false, cond,
 use Rattle.sql_values.specs.declared.value.Value.{Value}
 use Rattle.sql_values.specs.declared.value.Value.TheVariants as values
 use Rattle.sql_values.specs.declared.places.Xid.{Xid}
-use Rattle.sql_values.specs.declared.tree.ColumnName.{ColumnName}
 use Rattle.sql_text.specs.declared.link.LinkRequest.{LinkRequest}
 use Rattle.sql_text.specs.declared.link.LinkRequest.TheVariants as requests
 use Rattle.sql_text.specs.declared.link.ScanItems.{ScanItems}
 use Rattle.sql_text.specs.declared.link.ScanItems.TheVariants as scanned
 use Rattle.sql_text.specs.declared.link.AggregateCall.{AggregateCall}
-use Rattle.sql_text.specs.declared.link.AggregateCall.TheVariants as calls
-use Rattle.sql_text.specs.declared.token.Fixed.TheVariants.{And, Between, Delete, From, In, Into, Select, Values, Where, Comma, Star, Semicolon, By, Commit, Count, End, Limit, Max, Min, Order, Prepare, Recover, Replace, Rollback, Start, Sum, Xa}
+use Rattle.sql_text.specs.declared.token.Fixed.TheVariants.{And, Between, By, Delete, From, In, Into, Limit, Order, Select, Values, Where, Commit, End, Prepare, Recover, Replace, Rollback, Start, Xa, Comma, Star, Semicolon}
 use Rattle.sql_text.specs.declared.token.Token.{Token}
 use Rattle.sql_text.specs.declared.token.Token.TheVariants as tokens
 use Rattle.sql_text.specs.declared.fault.Stop.{Stop}
-use Rattle.sql_text.specs.Rules.{Rule, is, one, ◌⊳◌, ◌▷◌, ◌∣◌, series, at_most_further, parenthesized}
-use Rattle.sql_text.specs.Grammar.{column}
-use Rattle.sql_text.specs.LinkGrammar.{key_of, value_of, count_of, part_of, format_of, xid, branch, of_column, aggregate, scan_items, order, limit, scan, row, put, keys, delete, request}
-use Rattle.sql_text.specs.Reading.{◌>>=◌, begins, expect, optional_at, one_at, column_at, series_at, further_at, with_front}
-use Rattle.sql_text.specs.LinkReading.{xid_at, named_at, behind_xa_at, branch_at, star_at, count_at, of_column_at, aggregate_at, scan_items_at, order_at, limit_at, scan_at, row_at, put_at, keys_at, del_at, clear_at, which_at, delete_at, request_body_at}
+use Rattle.sql_text.specs.Rules.{Rule, is, one, ◌⊳◌, ◌▷◌, ◌∣◌, series, at_most_further}
+use Rattle.sql_text.specs.Grammar.{count_of, aggregate}
+use Rattle.sql_text.specs.LinkGrammar.{key_of, value_of, part_of, format_of, xid, branch, scan_items, order, limit, scan, row, put, keys, delete, request}
+use Rattle.sql_text.specs.Reading.{◌>>=◌, begins, expect, optional_at, one_at, aggregate_at, series_at, further_at, with_front}
+use Rattle.sql_text.specs.LinkReading.{xid_at, named_at, behind_xa_at, branch_at, scan_items_at, order_at, limit_at, scan_at, row_at, put_at, keys_at, del_at, clear_at, which_at, delete_at, request_body_at}
 use Rattle.sql_text.proofs.Fields.{Reads, Rules, kind_of, member, IsField, is_field, one_field}
 use Rattle.sql_text.proofs.Choices.{begins_tells, same_reader, either_field, fixed_or, optional_field}
 use Rattle.sql_text.proofs.Nested.{parenthesized_field, few_field, series_field}
-use Rattle.sql_text.proofs.ReadRules.{both, behind_fixed, known_as, name_field, column_field, where_field, lock_field}
+use Rattle.sql_text.proofs.ReadRules.{both, behind_fixed, known_as, name_field, count_field, aggregate_kinds, aggregate_field, where_field, lock_field}
 
 -- ---- single tokens
 
@@ -49,18 +47,6 @@ value_covers tokens.Bad x h = absurd cc
 
 value_field : (depth : ℕ) → IsField (λ _. one value_of) depth (one_at value_of) false (101 ∷ 102 ∷ 103 ∷ []) []
 value_field depth = one_field value_of (101 ∷ 102 ∷ 103 ∷ []) depth (record { cover = value_covers; token = tokens.Digits (pos 1); example = values.Number (pos 1); known = refl })
-
-count_covers : (t : Token) (x : ℕ) → count_of t ≡ Some x → member (kind_of t) (101 ∷ []) ≡ true
-count_covers (tokens.Digits n) x h = refl
-count_covers (tokens.Signed n) x h = absurd cc
-count_covers (tokens.Text t) x h = absurd cc
-count_covers (tokens.Bare n) x h = absurd cc
-count_covers (tokens.Quoted n) x h = absurd cc
-count_covers (tokens.Fixed f) x h = absurd cc
-count_covers tokens.Bad x h = absurd cc
-
-count_field : (depth : ℕ) → IsField (λ _. one count_of) depth (one_at count_of) false (101 ∷ []) []
-count_field depth = one_field count_of (101 ∷ []) depth (record { cover = count_covers; token = tokens.Digits (pos 1); example = 1; known = refl })
 
 part_covers : (t : Token) (x : List ℕ) → part_of t ≡ Some x → member (kind_of t) (103 ∷ []) ≡ true
 part_covers (tokens.Text t) x h = refl
@@ -109,25 +95,6 @@ branch_field depth =
 
 -- ---- scans
 
-star_field : (depth : ℕ) → IsField (λ _. Star ⊳ is calls.Count) depth star_at false (17 ∷ []) []
-unfolding star_at
-star_field depth = behind_fixed Star (is_field calls.Count depth)
-
-counted_field : (depth : ℕ) → IsField (parenthesized (Star ⊳ is calls.Count)) depth (count_at depth) false (13 ∷ []) []
-unfolding count_at
-counted_field depth = parenthesized_field (Star ⊳ is calls.Count) depth star_at false (17 ∷ []) [] star_field refl
-
-of_column_field : (call : ColumnName → AggregateCall) (depth : ℕ) → IsField (of_column call) depth (of_column_at call depth) false (13 ∷ []) []
-of_column_field call depth = known_as (13 ∷ []) [] refl refl (both (parenthesized_field column depth column_at false (100 ∷ []) (16 ∷ []) column_field refl) (λ c. is_field (call c) depth) refl)
-
-aggregate_field : (depth : ℕ) → IsField aggregate depth (aggregate_at depth) false (27 ∷ 43 ∷ 34 ∷ 33 ∷ []) []
-unfolding aggregate_at
-aggregate_field depth =
-    fixed_or Count (parenthesized (Star ⊳ is calls.Count)) (count_at depth) _ _ depth false false (13 ∷ []) [] (43 ∷ 34 ∷ 33 ∷ []) [] (counted_field depth)
-    (fixed_or Sum (of_column calls.Sum) (of_column_at calls.Sum depth) _ _ depth false false (13 ∷ []) [] (34 ∷ 33 ∷ []) [] (of_column_field calls.Sum depth)
-    (fixed_or Min (of_column calls.Min) (of_column_at calls.Min depth) (λ n. Max ⊳ of_column calls.Max n) (λ ts. expect Max ts >>= of_column_at calls.Max depth) depth false false (13 ∷ []) [] (33 ∷ []) [] (of_column_field calls.Min depth)
-    (behind_fixed Max (of_column_field calls.Max depth)) refl) refl) refl
-
 abbrev calls_of : List AggregateCall × List Token → Result (ScanItems × List Token) Stop
 calls_of l = Ok (scanned.Aggregates l.0, l.1)
 
@@ -151,17 +118,17 @@ calls_are depth (Err stop) = refl
 abbrev some_calls : Rules ScanItems
 some_calls n = aggregate n ▷ λ a. at_most_further 999 Comma (aggregate n) ▷ λ l. is (scanned.Aggregates (a ∷ l))
 
-some_calls_field : (depth : ℕ) → IsField some_calls depth (λ ts. aggregate_at depth ts >>= calls_read depth) false (27 ∷ 43 ∷ 34 ∷ 33 ∷ []) (15 ∷ [])
+some_calls_field : (depth : ℕ) → IsField some_calls depth (λ ts. aggregate_at depth ts >>= calls_read depth) false aggregate_kinds (15 ∷ [])
 some_calls_field depth =
-    same_reader some_calls depth (λ ts. aggregate_at depth ts >>= calls_put depth) (λ ts. aggregate_at depth ts >>= calls_read depth) false (27 ∷ 43 ∷ 34 ∷ 33 ∷ []) (15 ∷ [])
-    (known_as (27 ∷ 43 ∷ 34 ∷ 33 ∷ []) (15 ∷ []) refl refl
-    (both (aggregate_field depth) (λ a. both (few_field 999 Comma aggregate (aggregate_at depth) depth (27 ∷ 43 ∷ 34 ∷ 33 ∷ []) [] (aggregate_field depth) refl) (λ l. is_field (scanned.Aggregates (a ∷ l)) depth) refl) refl))
+    same_reader some_calls depth (λ ts. aggregate_at depth ts >>= calls_put depth) (λ ts. aggregate_at depth ts >>= calls_read depth) false aggregate_kinds (15 ∷ [])
+    (known_as aggregate_kinds (15 ∷ []) refl refl
+    (both (aggregate_field depth) (λ a. both (few_field 999 Comma aggregate (aggregate_at depth) depth aggregate_kinds [] (aggregate_field depth) refl) (λ l. is_field (scanned.Aggregates (a ∷ l)) depth) refl) refl))
     (λ ts. calls_are depth (aggregate_at depth ts))
 
-scan_items_field : (depth : ℕ) → IsField scan_items depth (scan_items_at depth) false (17 ∷ 27 ∷ 43 ∷ 34 ∷ 33 ∷ []) (15 ∷ [])
+scan_items_field : (depth : ℕ) → IsField scan_items depth (scan_items_at depth) false (17 ∷ aggregate_kinds) (15 ∷ [])
 unfolding scan_items_at
-scan_items_field depth = known_as (17 ∷ 27 ∷ 43 ∷ 34 ∷ 33 ∷ []) (15 ∷ []) refl refl
-    (fixed_or Star (λ _. is scanned.All) (λ ts. Ok (scanned.All, ts)) some_calls (λ ts. aggregate_at depth ts >>= calls_read depth) depth true false [] [] (27 ∷ 43 ∷ 34 ∷ 33 ∷ []) (15 ∷ [])
+scan_items_field depth = known_as (17 ∷ aggregate_kinds) (15 ∷ []) refl refl
+    (fixed_or Star (λ _. is scanned.All) (λ ts. Ok (scanned.All, ts)) some_calls (λ ts. aggregate_at depth ts >>= calls_read depth) depth true false [] [] aggregate_kinds (15 ∷ [])
     (is_field scanned.All depth) (some_calls_field depth) refl)
 
 -- a rule that has tokens, among rules that may have none

@@ -1,5 +1,5 @@
 -- Each reading function reads its rule.
-use Rattle.std.proofs.Common.{◌≡◌, ℕ, zero, suc, Bool, true, false, cond, List, [], ◌∷◌, ◌++◌, Option, Some, None, Result, Ok, Err, refl, sym, ap, subst, ◌∙◌, append-nil, arith, inl, inr}
+use Rattle.std.proofs.Common.{◌≡◌, ℕ, pos, zero, suc, Bool, true, false, cond, List, [], ◌∷◌, ◌++◌, Option, Some, None, Result, Ok, Err, refl, sym, ap, subst, ◌∙◌, append-nil, arith, inl, inr}
 use Rattle.std.specs.Prelude.{◌&&◌, ◌||◌, ◌==◌, is_some, option_map, ◌⊎◌}
 use Rattle.std.proofs.lemmas.Bool.Decides.{nat_tests}
 use Rattle.sql_values.specs.declared.literal.Literal.TheVariants as literals
@@ -14,15 +14,19 @@ use Rattle.sql_text.specs.declared.statement.Statement.TheVariants as statements
 use Rattle.sql_text.specs.declared.statement.SelectItems.{SelectItems}
 use Rattle.sql_text.specs.declared.statement.SelectItems.TheVariants as items
 use Rattle.sql_text.specs.declared.statement.Item.{Item}
+use Rattle.sql_text.specs.declared.statement.AggregateItem.{AggregateItem}
+use Rattle.sql_text.specs.declared.statement.Limit.{Limit as RowLimit}
+use Rattle.sql_text.specs.declared.link.AggregateCall.{AggregateCall}
+use Rattle.sql_text.specs.declared.link.AggregateCall.TheVariants as calls
 use Rattle.sql_text.specs.declared.token.Fixed.{Fixed}
-use Rattle.sql_text.specs.declared.token.Fixed.TheVariants.{And, As, Between, Delete, For, From, In, Insert, Into, Lock, Mode, Not, Null, Or, Select, Set, Share, Update, Values, Where, By, Commit, Count, End, Limit, Max, Min, Order, Prepare, Recover, Replace, Rollback, Start, Sum, Xa, Open, Close, Comma, Dot, Star, Plus, Minus, Semicolon, Equal, NotEqual, Less, AtMost, Greater, AtLeast}
+use Rattle.sql_text.specs.declared.token.Fixed.TheVariants.{And, As, Asc, Between, By, Count, Delete, Desc, For, From, In, Insert, Into, Limit, Lock, Max, Min, Mode, Not, Null, Offset, Or, Order, Select, Set, Share, Sum, Update, Values, Where, Commit, End, Prepare, Recover, Replace, Rollback, Start, Xa, Open, Close, Comma, Dot, Star, Plus, Minus, Semicolon, Equal, NotEqual, Less, AtMost, Greater, AtLeast}
 use Rattle.sql_text.specs.declared.token.Token.{Token}
 use Rattle.sql_text.specs.declared.token.Token.TheVariants as tokens
 use Rattle.sql_text.specs.declared.fault.Stop.{Stop}
-use Rattle.sql_text.specs.Rules.{Rule, is, one, ◌⊳◌, ◌▷◌, ◌∣◌, opens, series, at_most_further, parenthesized, optional}
-use Rattle.sql_text.specs.Grammar.{name_of, literal_of, comparison_of, name, literal, table, column, alias, operand, literal_list, comparison, joined, conj_over, cond_over, neg, is_spider, spider_of}
-use Rattle.sql_text.specs.Grammar.{cond as cond_rule, tuple, column_list, insert, item, select_items, tab, where_cond, lock, locked, select, delete}
-use Rattle.sql_text.specs.Reading.{◌>>=◌, number_of, stands, begins, behind, expect, open_at, too_deep, syntax, one_at, name_at, literal_at, head_of, behind_head_at, table_at, column_at, some_name_at, alias_at, operand_at, literal_list_at, compared_at, listed_at, ranged_at, behind_not_at, behind_column_at, comparison_at, conj_by, cond_by, closed_by, neg_at, cond_at, column_list_at, insert_at, item_at, select_items_at, tab_at, where_at, share_at, for_update_at, lock_at, locked_at, select_at, delete_at, optional_at, series_at, parenthesized_at, further_at, with_front}
+use Rattle.sql_text.specs.Rules.{Rule, is, one, ◌⊳◌, ◌▷◌, ◌∣◌, opens, series, parenthesized, optional}
+use Rattle.sql_text.specs.Grammar.{name_of, literal_of, comparison_of, count_of, name, literal, table, column, alias, operand, literal_list, comparison, joined, conj_over, cond_over, neg, is_spider, spider_of}
+use Rattle.sql_text.specs.Grammar.{cond as cond_rule, of_column, aggregate, tuple, column_list, insert, item, column_items, aggregate_item, aggregate_items, select_items, tab, where_cond, direction, sort, sorts, order, behind_count, limits, limit, lock, locked, select, delete}
+use Rattle.sql_text.specs.Reading.{◌>>=◌, number_of, stands, begins, behind, expect, open_at, too_deep, syntax, one_at, name_at, literal_at, head_of, behind_head_at, table_at, column_at, some_name_at, alias_at, operand_at, literal_list_at, compared_at, listed_at, ranged_at, behind_not_at, behind_column_at, comparison_at, conj_by, cond_by, closed_by, neg_at, cond_at, column_list_at, insert_at, star_at, count_at, of_column_at, aggregate_at, item_at, column_items_at, aggregate_item_at, aggregate_items_at, select_items_at, tab_at, where_at, direction_at, sort_at, sort_list_at, sorts_at, order_at, behind_count_at, counts_at, limits_at, limit_at, share_at, for_update_at, lock_at, locked_at, select_at, delete_at, series_at, parenthesized_at, further_at, with_front}
 use Rattle.sql_text.proofs.Fields.{Reads, Rules, kind_of, member, apart, Clear, Some_text, IsField, or_true, and_true, both_false, is_field, one_field, fixed_field, then_field}
 use Rattle.sql_text.proofs.Choices.{Tells, begins_tells, either_tells, same_reader, same_rule, either_field, fixed_or, optional_field, looked}
 use Rattle.sql_text.proofs.Nested.{zero_field, suc_field, parenthesized_field, few_field, series_field}
@@ -111,6 +115,9 @@ literal_kinds = 101 ∷ 102 ∷ 103 ∷ 8 ∷ []
 literal_tells_fixed : (f : Fixed) → is_some (literal_of (tokens.Fixed f)) ≡ member (number_of f) literal_kinds
 literal_tells_fixed And = refl
 literal_tells_fixed As = refl
+literal_tells_fixed Asc = refl
+literal_tells_fixed Desc = refl
+literal_tells_fixed Offset = refl
 literal_tells_fixed Between = refl
 literal_tells_fixed From = refl
 literal_tells_fixed In = refl
@@ -174,6 +181,9 @@ literal_tells = record { none = refl; head = literal_head }
 name_head_fixed : (f : Fixed) → false ≡ member (number_of f) (100 ∷ [])
 name_head_fixed And = refl
 name_head_fixed As = refl
+name_head_fixed Asc = refl
+name_head_fixed Desc = refl
+name_head_fixed Offset = refl
 name_head_fixed Between = refl
 name_head_fixed From = refl
 name_head_fixed In = refl
@@ -240,6 +250,9 @@ comparison_kinds = 19 ∷ 20 ∷ 21 ∷ 22 ∷ 23 ∷ 24 ∷ []
 comparison_tells_fixed : (f : Fixed) → is_some (comparison_of (tokens.Fixed f)) ≡ member (number_of f) comparison_kinds
 comparison_tells_fixed And = refl
 comparison_tells_fixed As = refl
+comparison_tells_fixed Asc = refl
+comparison_tells_fixed Desc = refl
+comparison_tells_fixed Offset = refl
 comparison_tells_fixed Between = refl
 comparison_tells_fixed From = refl
 comparison_tells_fixed In = refl
@@ -310,6 +323,18 @@ literal_field depth = one_field literal_of literal_kinds depth (record { cover =
 
 comparison_sign_field : (depth : ℕ) → IsField (λ _. one comparison_of) depth (one_at comparison_of) false comparison_kinds []
 comparison_sign_field depth = one_field comparison_of comparison_kinds depth (record { cover = told_covers comparison_of comparison_kinds comparison_tells; token = tokens.Fixed Equal; example = comparisons.Equal; known = refl })
+
+count_covers : (t : Token) (x : ℕ) → count_of t ≡ Some x → member (kind_of t) (101 ∷ []) ≡ true
+count_covers (tokens.Digits n) x h = refl
+count_covers (tokens.Signed n) x h = absurd cc
+count_covers (tokens.Text t) x h = absurd cc
+count_covers (tokens.Bare n) x h = absurd cc
+count_covers (tokens.Quoted n) x h = absurd cc
+count_covers (tokens.Fixed f) x h = absurd cc
+count_covers tokens.Bad x h = absurd cc
+
+pub count_field : (depth : ℕ) → IsField (λ _. one count_of) depth (one_at count_of) false (101 ∷ []) []
+count_field depth = one_field count_of (101 ∷ []) depth (record { cover = count_covers; token = tokens.Digits (pos 1); example = 1; known = refl })
 
 -- ---- names and literals
 
@@ -697,6 +722,30 @@ pub cond_field : (depth : ℕ) → IsField cond_rule depth (cond_at depth) false
 unfolding cond_at
 cond_field depth = cond_over_field depth (neg_field depth)
 
+-- ---- aggregates
+
+star_field : (depth : ℕ) → IsField (λ _. Star ⊳ is calls.Count) depth star_at false (17 ∷ []) []
+unfolding star_at
+star_field depth = behind_fixed Star (is_field calls.Count depth)
+
+counted_field : (depth : ℕ) → IsField (parenthesized (Star ⊳ is calls.Count)) depth (count_at depth) false (13 ∷ []) []
+unfolding count_at
+counted_field depth = parenthesized_field (Star ⊳ is calls.Count) depth star_at false (17 ∷ []) [] star_field refl
+
+of_column_field : (call : ColumnName → AggregateCall) (depth : ℕ) → IsField (of_column call) depth (of_column_at call depth) false (13 ∷ []) []
+of_column_field call depth = known_as (13 ∷ []) [] refl refl (both (parenthesized_field column depth column_at false (100 ∷ []) (16 ∷ []) column_field refl) (λ c. is_field (call c) depth) refl)
+
+abbrev pub aggregate_kinds : List ℕ
+aggregate_kinds = 27 ∷ 43 ∷ 34 ∷ 33 ∷ []
+
+pub aggregate_field : (depth : ℕ) → IsField aggregate depth (aggregate_at depth) false aggregate_kinds []
+unfolding aggregate_at
+aggregate_field depth =
+    fixed_or Count (parenthesized (Star ⊳ is calls.Count)) (count_at depth) _ _ depth false false (13 ∷ []) [] (43 ∷ 34 ∷ 33 ∷ []) [] (counted_field depth)
+    (fixed_or Sum (of_column calls.Sum) (of_column_at calls.Sum depth) _ _ depth false false (13 ∷ []) [] (34 ∷ 33 ∷ []) [] (of_column_field calls.Sum depth)
+    (fixed_or Min (of_column calls.Min) (of_column_at calls.Min depth) (λ n. Max ⊳ of_column calls.Max n) (λ ts. expect Max ts >>= of_column_at calls.Max depth) depth false false (13 ∷ []) [] (33 ∷ []) [] (of_column_field calls.Min depth)
+    (behind_fixed Max (of_column_field calls.Max depth)) refl) refl) refl
+
 -- ---- statements
 
 name_list_field : (depth : ℕ) → IsField (λ _. series Comma name) depth (series_at Comma name_at) false (100 ∷ []) (15 ∷ [])
@@ -745,20 +794,59 @@ items_read : (r : Result (Item × List Token) Stop) → (r >>= columns_put) ≡ 
 items_read (Ok i) = items_again i.0 (further_at 899 Comma item_at i.1)
 items_read (Err stop) = refl
 
-some_items_field : (depth : ℕ) → IsField (λ _. item ▷ λ i. at_most_further 899 Comma item ▷ λ l. is (items.Columns (i ∷ l))) depth
-    (λ ts. item_at ts >>= columns_read) false (100 ∷ []) (15 ∷ 1 ∷ 100 ∷ 16 ∷ [])
-some_items_field depth =
-    same_reader (λ _. item ▷ λ i. at_most_further 899 Comma item ▷ λ l. is (items.Columns (i ∷ l))) depth (λ ts. item_at ts >>= columns_put)
+column_items_field : (depth : ℕ) → IsField (λ _. column_items) depth column_items_at false (100 ∷ []) (15 ∷ 1 ∷ 100 ∷ 16 ∷ [])
+unfolding column_items_at
+column_items_field depth =
+    same_reader (λ _. column_items) depth (λ ts. item_at ts >>= columns_put)
     (λ ts. item_at ts >>= columns_read) false (100 ∷ []) (15 ∷ 1 ∷ 100 ∷ 16 ∷ [])
     (known_as (100 ∷ []) (15 ∷ 1 ∷ 100 ∷ 16 ∷ []) refl refl
     (both (item_field depth) (λ i. both (few_field 899 Comma (λ _. item) item_at depth (100 ∷ []) (1 ∷ 100 ∷ 16 ∷ []) (item_field depth) refl) (λ l. is_field (items.Columns (i ∷ l)) depth) refl) refl))
     (λ ts. items_read (item_at ts))
 
-select_items_field : (depth : ℕ) → IsField (λ _. select_items) depth select_items_at false (17 ∷ 100 ∷ []) (15 ∷ 1 ∷ 100 ∷ 16 ∷ [])
+aggregate_item_field : (depth : ℕ) → IsField aggregate_item depth (aggregate_item_at depth) false aggregate_kinds (1 ∷ 100 ∷ [])
+unfolding aggregate_item_at
+aggregate_item_field depth = known_as aggregate_kinds (1 ∷ 100 ∷ []) refl refl
+    (both (aggregate_field depth) (λ c. both (alias_field depth) (λ a. is_field (record { call = c; alias = a }) depth) refl) refl)
+
+abbrev aggregates_of : List AggregateItem × List Token → Result (SelectItems × List Token) Stop
+aggregates_of l = Ok (items.Aggregates l.0, l.1)
+
+abbrev aggregates_behind : AggregateItem → List AggregateItem × List Token → Result (SelectItems × List Token) Stop
+aggregates_behind i l = Ok (items.Aggregates (i ∷ l.0), l.1)
+
+aggregates_again : (i : AggregateItem) (r : Result (List AggregateItem × List Token) Stop) → (r >>= aggregates_behind i) ≡ (with_front (i ∷ []) r >>= aggregates_of)
+aggregates_again i (Ok l) = refl
+aggregates_again i (Err stop) = refl
+
+abbrev aggregates_read : ℕ → AggregateItem × List Token → Result (SelectItems × List Token) Stop
+aggregates_read depth i = with_front (i.0 ∷ []) (further_at 899 Comma (aggregate_item_at depth) i.1) >>= aggregates_of
+
+abbrev aggregates_put : ℕ → AggregateItem × List Token → Result (SelectItems × List Token) Stop
+aggregates_put depth i = further_at 899 Comma (aggregate_item_at depth) i.1 >>= aggregates_behind i.0
+
+aggregates_are : (depth : ℕ) (r : Result (AggregateItem × List Token) Stop) → (r >>= aggregates_put depth) ≡ (r >>= aggregates_read depth)
+aggregates_are depth (Ok i) = aggregates_again i.0 (further_at 899 Comma (aggregate_item_at depth) i.1)
+aggregates_are depth (Err stop) = refl
+
+aggregate_items_field : (depth : ℕ) → IsField aggregate_items depth (aggregate_items_at depth) false aggregate_kinds (15 ∷ 1 ∷ 100 ∷ [])
+unfolding aggregate_items_at
+aggregate_items_field depth =
+    same_reader aggregate_items depth (λ ts. aggregate_item_at depth ts >>= aggregates_put depth) (λ ts. aggregate_item_at depth ts >>= aggregates_read depth) false aggregate_kinds (15 ∷ 1 ∷ 100 ∷ [])
+    (known_as aggregate_kinds (15 ∷ 1 ∷ 100 ∷ []) refl refl
+    (both (aggregate_item_field depth) (λ i. both (few_field 899 Comma aggregate_item (aggregate_item_at depth) depth aggregate_kinds (1 ∷ 100 ∷ []) (aggregate_item_field depth) refl) (λ l. is_field (items.Aggregates (i ∷ l)) depth) refl) refl))
+    (λ ts. aggregates_are depth (aggregate_item_at depth ts))
+
+-- a name begins columns
+some_items_field : (depth : ℕ) → IsField (λ n. column_items ∣ aggregate_items n) depth (λ ts. cond (stands name_of ts) (column_items_at ts) (aggregate_items_at depth ts)) false (100 ∷ aggregate_kinds) (15 ∷ 1 ∷ 100 ∷ 16 ∷ [])
+some_items_field depth = known_as (100 ∷ aggregate_kinds) (15 ∷ 1 ∷ 100 ∷ 16 ∷ []) refl refl
+    (either_field (λ _. column_items) column_items_at aggregate_items (aggregate_items_at depth) (stands name_of) depth false (100 ∷ []) (15 ∷ 1 ∷ 100 ∷ 16 ∷ []) aggregate_kinds (15 ∷ 1 ∷ 100 ∷ [])
+    (column_items_field depth) (aggregate_items_field depth) name_tells refl)
+
+select_items_field : (depth : ℕ) → IsField select_items depth (select_items_at depth) false (17 ∷ 100 ∷ aggregate_kinds) (15 ∷ 1 ∷ 100 ∷ 16 ∷ [])
 unfolding select_items_at
-select_items_field depth = known_as (17 ∷ 100 ∷ []) (15 ∷ 1 ∷ 100 ∷ 16 ∷ []) refl refl
-    (fixed_or Star (λ _. is items.All) (λ ts. Ok (items.All, ts)) (λ _. item ▷ λ i. at_most_further 899 Comma item ▷ λ l. is (items.Columns (i ∷ l)))
-    (λ ts. item_at ts >>= columns_read) depth true false [] [] (100 ∷ []) (15 ∷ 1 ∷ 100 ∷ 16 ∷ [])
+select_items_field depth = known_as (17 ∷ 100 ∷ aggregate_kinds) (15 ∷ 1 ∷ 100 ∷ 16 ∷ []) refl refl
+    (fixed_or Star (λ _. is items.All) (λ ts. Ok (items.All, ts)) (λ n. column_items ∣ aggregate_items n)
+    (λ ts. cond (stands name_of ts) (column_items_at ts) (aggregate_items_at depth ts)) depth true false [] [] (100 ∷ aggregate_kinds) (15 ∷ 1 ∷ 100 ∷ 16 ∷ [])
     (is_field items.All depth)
     (some_items_field depth)
     refl)
@@ -774,6 +862,76 @@ where_field depth = known_as (12 ∷ []) (12 ∷ 9 ∷ 0 ∷ 16 ∷ []) refl ref
     (fixed_or Where (λ n. cond_rule n ▷ λ c. is (Some c)) (λ ts. cond_at depth ts >>= λ c. Ok (Some c.0, c.1)) (λ _. is None) (λ ts. Ok (None, ts)) depth false true neg_kinds (9 ∷ 0 ∷ 16 ∷ []) [] []
     (known_as neg_kinds (9 ∷ 0 ∷ 16 ∷ []) refl refl (both (cond_field depth) (λ c. is_field (Some c) depth) refl))
     (is_field None depth) refl)
+
+direction_field : (depth : ℕ) → IsField (λ _. direction) depth direction_at true (49 ∷ 50 ∷ []) (49 ∷ 50 ∷ [])
+unfolding direction_at
+direction_field depth = known_as (49 ∷ 50 ∷ []) (49 ∷ 50 ∷ []) refl refl
+    (fixed_or Asc (λ _. is true) (λ ts. Ok (true, ts)) (λ _. (Desc ⊳ is false) ∣ is true) (λ ts. cond (begins Desc ts) (Ok (false, behind ts)) (Ok (true, ts))) depth true true [] [] (50 ∷ []) (50 ∷ [])
+    (is_field true depth)
+    (known_as (50 ∷ []) (50 ∷ []) refl refl
+    (fixed_or Desc (λ _. is false) (λ ts. Ok (false, ts)) (λ _. is true) (λ ts. Ok (true, ts)) depth true true [] [] [] [] (is_field false depth) (is_field true depth) refl))
+    refl)
+
+sort_field : (depth : ℕ) → IsField (λ _. sort) depth sort_at false (100 ∷ []) (49 ∷ 50 ∷ 16 ∷ [])
+unfolding sort_at
+sort_field depth = known_as (100 ∷ []) (49 ∷ 50 ∷ 16 ∷ []) refl refl
+    (both (column_field depth) (λ c. both (direction_field depth) (λ d. is_field (record { column = c; rising = d }) depth) refl) refl)
+
+-- the kinds with which an order and a limit go on
+abbrev order_kinds : List ℕ
+order_kinds = 36 ∷ 15 ∷ 49 ∷ 50 ∷ 16 ∷ []
+
+abbrev limit_kinds : List ℕ
+limit_kinds = 31 ∷ 51 ∷ 15 ∷ []
+
+sort_list_field : (depth : ℕ) → IsField (λ _. By ⊳ series Comma sort) depth sort_list_at false (25 ∷ []) (15 ∷ 49 ∷ 50 ∷ 16 ∷ [])
+unfolding sort_list_at
+sort_list_field depth = behind_fixed By (known_as (100 ∷ []) (15 ∷ 49 ∷ 50 ∷ 16 ∷ []) refl refl (series_field Comma (λ _. sort) sort_at depth (100 ∷ []) (49 ∷ 50 ∷ 16 ∷ []) (sort_field depth) refl))
+
+sorts_field : (depth : ℕ) → IsField (λ _. sorts) depth sorts_at true (36 ∷ []) order_kinds
+unfolding sorts_at
+sorts_field depth = known_as (36 ∷ []) order_kinds refl refl
+    (fixed_or Order (λ _. By ⊳ series Comma sort) sort_list_at (λ _. is []) (λ ts. Ok ([], ts)) depth false true (25 ∷ []) (15 ∷ 49 ∷ 50 ∷ 16 ∷ []) [] [] (sort_list_field depth) (is_field [] depth) refl)
+
+order_field : (i : SelectItems) (depth : ℕ) → IsField (λ _. order i) depth (order_at i) true (36 ∷ []) order_kinds
+unfolding order_at
+order_field items.All depth = sorts_field depth
+order_field (items.Columns l) depth = sorts_field depth
+order_field (items.Aggregates l) depth = known_as (36 ∷ []) order_kinds refl refl (is_field [] depth)
+
+abbrev with_offset : ℕ → ℕ → RowLimit
+with_offset n m = record { count = n; offset = m }
+
+-- a count, and the limit that it makes
+count_made_field : (make : ℕ → RowLimit) (depth : ℕ) → IsField (λ _. one count_of ▷ λ m. is (make m)) depth (λ ts. one_at count_of ts >>= λ m. Ok (make m.0, m.1)) false (101 ∷ []) []
+count_made_field make depth = known_as (101 ∷ []) [] refl refl (both (count_field depth) (λ m. is_field (make m) depth) refl)
+
+behind_count_field : (n depth : ℕ) → IsField (λ _. behind_count n) depth (behind_count_at n) true (51 ∷ 15 ∷ []) (51 ∷ 15 ∷ [])
+unfolding behind_count_at
+behind_count_field n depth = known_as (51 ∷ 15 ∷ []) (51 ∷ 15 ∷ []) refl refl
+    (fixed_or Offset (λ _. one count_of ▷ λ m. is (with_offset n m)) (λ ts. one_at count_of ts >>= λ m. Ok (with_offset n m.0, m.1)) (λ _. (Comma ⊳ (one count_of ▷ λ m. is (with_offset m n))) ∣ is (with_offset n 0))
+    (λ ts. cond (begins Comma ts) (one_at count_of (behind ts) >>= λ m. Ok (with_offset m.0 n, m.1)) (Ok (with_offset n 0, ts))) depth false true (101 ∷ []) [] (15 ∷ []) (15 ∷ [])
+    (count_made_field (λ m. with_offset n m) depth)
+    (known_as (15 ∷ []) (15 ∷ []) refl refl
+    (fixed_or Comma (λ _. one count_of ▷ λ m. is (with_offset m n)) (λ ts. one_at count_of ts >>= λ m. Ok (with_offset m.0 n, m.1)) (λ _. is (with_offset n 0)) (λ ts. Ok (with_offset n 0, ts)) depth false true (101 ∷ []) [] [] []
+    (count_made_field (λ m. with_offset m n) depth) (is_field (with_offset n 0) depth) refl))
+    refl)
+
+counts_field : (depth : ℕ) → IsField (λ _. one count_of ▷ λ n. behind_count n ▷ λ l. is (Some l)) depth counts_at false (101 ∷ []) (51 ∷ 15 ∷ [])
+unfolding counts_at
+counts_field depth = known_as (101 ∷ []) (51 ∷ 15 ∷ []) refl refl
+    (both (count_field depth) (λ n. both (behind_count_field n depth) (λ l. is_field (Some l) depth) refl) refl)
+
+limits_field : (depth : ℕ) → IsField (λ _. limits) depth limits_at true (31 ∷ []) limit_kinds
+unfolding limits_at
+limits_field depth = known_as (31 ∷ []) limit_kinds refl refl
+    (fixed_or Limit (λ _. one count_of ▷ λ n. behind_count n ▷ λ l. is (Some l)) counts_at (λ _. is None) (λ ts. Ok (None, ts)) depth false true (101 ∷ []) (51 ∷ 15 ∷ []) [] [] (counts_field depth) (is_field None depth) refl)
+
+limit_field : (i : SelectItems) (depth : ℕ) → IsField (λ _. limit i) depth (limit_at i) true (31 ∷ []) limit_kinds
+unfolding limit_at
+limit_field items.All depth = limits_field depth
+limit_field (items.Columns l) depth = limits_field depth
+limit_field (items.Aggregates l) depth = known_as (31 ∷ []) limit_kinds refl refl (is_field None depth)
 
 share_field : (depth : ℕ) → IsField (λ _. In ⊳ (Share ⊳ (Mode ⊳ is locks.Shared))) depth share_at false (4 ∷ []) []
 unfolding share_at
@@ -794,12 +952,17 @@ locked_field depth = known_as (32 ∷ 30 ∷ []) (32 ∷ 30 ∷ []) refl refl
     (known_as (32 ∷ 30 ∷ []) [] refl refl (both (lock_field depth) (λ m. is_field (Some m) depth) refl))
     (is_field None depth) (either_tells Lock For) refl)
 
-pub select_field : (depth : ℕ) → IsField select depth (select_at depth) false (10 ∷ []) (32 ∷ 30 ∷ 12 ∷ 9 ∷ 0 ∷ 1 ∷ 100 ∷ 16 ∷ [])
+-- the kinds with which a SELECT goes on
+abbrev pub select_kinds : List ℕ
+select_kinds = 32 ∷ 30 ∷ 31 ∷ 51 ∷ 36 ∷ 15 ∷ 49 ∷ 50 ∷ 12 ∷ 9 ∷ 0 ∷ 1 ∷ 100 ∷ 16 ∷ []
+
+pub select_field : (depth : ℕ) → IsField select depth (select_at depth) false (10 ∷ []) select_kinds
 unfolding select_at
-select_field depth = known_as (10 ∷ []) (32 ∷ 30 ∷ 12 ∷ 9 ∷ 0 ∷ 1 ∷ 100 ∷ 16 ∷ []) refl refl
+select_field depth = known_as (10 ∷ []) select_kinds refl refl
     (behind_fixed Select
     (both (select_items_field depth) (λ i. behind_fixed From
-    (both (tab_field depth) (λ t. both (where_field depth) (λ c. both (locked_field depth) (λ m. is_field (statements.Select (record { items = i; tab = t; cond = c; lock = m })) depth) refl) refl) refl)) refl))
+    (both (tab_field depth) (λ t. both (where_field depth) (λ c. both (order_field i depth) (λ o. both (limit_field i depth) (λ l. both (locked_field depth) (λ m.
+    is_field (statements.Select (record { items = i; tab = t; cond = c; order = o; limit = l; lock = m })) depth) refl) refl) refl) refl) refl)) refl))
 
 pub delete_field : (depth : ℕ) → IsField delete depth (delete_at depth) false (28 ∷ []) (12 ∷ 9 ∷ 0 ∷ 16 ∷ [])
 unfolding delete_at

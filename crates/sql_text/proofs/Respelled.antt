@@ -14,7 +14,7 @@ use Rattle.sql_text.specs.declared.token.Token.TheVariants as tokens
 use Rattle.sql_text.specs.Rules.{Rule, is, series, further, many, at_most_further, parenthesized, optional}
 use Rattle.sql_text.specs.Grammar.{name_of, literal_of, name, literal, table, column, alias, operand}
 use Rattle.sql_text.specs.Printing.{literal_text, name_text, joined_text, column_text, operand_text, negation_text, alias_text}
-use Rattle.sql_text.proofs.Written.{AtomAt, Atom, Suffix, Prefix, Separator, closing_of, nothing_behind, atom_suffix, prefix_atom, separator_atom, suffix_suffix, atom_separator}
+use Rattle.sql_text.proofs.Written.{Atom, Suffix, Prefix, Separator, closing_of, nothing_behind, atom_suffix, prefix_atom, separator_atom, suffix_suffix, atom_separator}
 use Rattle.sql_text.proofs.Lexemes as lexemes
 use Rattle.sql_text.proofs.Sound.{InRange, Sound, Sounds, escapes_utf8}
 use Rattle.sql_text.proofs.Told.{Told, Respells, first_sound, second_sound, mapped, unmapped, retold}
@@ -37,14 +37,10 @@ qualified n m = record { table = Some n; column = m }
 module _ (change : Token → Token) (fixes : lexemes.Fixes change) where
   -- ---- names and literals
 
-  -- a name, behind what ends an operand or not
-  pub name_told_at : (operand : Bool) → Respells ((AtomAt change) operand) name name_text
-  name_told_at operand n ts h sound =
-      let s : Sounds (h.0 ∷ []) = subst Sounds h.1 sound in
-      (tokens.Quoted n ∷ [], (tokens.Quoted n, refl, refl), (lexemes.name_atom change fixes) operand n (name_case h.0 n h.2 s.0))
-
   pub name_told : Respells (Atom change) name name_text
-  name_told = name_told_at false
+  name_told n ts h sound =
+      let s : Sounds (h.0 ∷ []) = subst Sounds h.1 sound in
+      (tokens.Quoted n ∷ [], (tokens.Quoted n, refl, refl), (lexemes.name_atom change fixes) false n (name_case h.0 n h.2 s.0))
 
   number_told : (z : ℤ) → InRange z → Told (Atom change) literal (literals.Number z) (literal_text (literals.Number z))
   number_told (pos n) h = (tokens.Digits (pos n) ∷ [], (tokens.Digits (pos n), refl, refl), (lexemes.digits_atom change fixes) false n h)

@@ -1,5 +1,5 @@
 -- What is printed of an expression has tokens that spell it, with parentheses where it needs them.
-use Rattle.std.proofs.Common.{◌≡◌, ℕ, zero, suc, ◌<◌, ◌≤◌, map, List, [], ◌∷◌, ◌++◌, Bool, true, false, Some, refl, sym, ap, subst, ◌∙◌, append_assoc, append-nil, arith, inl, inr, codes}
+use Rattle.std.proofs.Common.{◌≡◌, ℕ, zero, suc, map, List, [], ◌∷◌, ◌++◌, Bool, true, false, Some, refl, sym, ap, subst, ◌∙◌, append-nil, arith, inl, inr, codes}
 use Rattle.std.specs.Prelude.{nat_lt}
 use Rattle.std.specs.List.{flat_map}
 use Rattle.std.proofs.lemmas.List.Folds.{flat_map-map}
@@ -13,7 +13,7 @@ use Rattle.sql_values.specs.declared.tree.Addend.{Addend, fold-roll-Addend}
 use Rattle.sql_text.specs.declared.token.Fixed.TheVariants.{Minus, Plus, Star, Open, Close}
 use Rattle.sql_text.specs.declared.token.Token.{Token}
 use Rattle.sql_text.specs.declared.token.Token.TheVariants as tokens
-use Rattle.sql_text.specs.Rules.{Rule, is, ◌▷◌, series, many}
+use Rattle.sql_text.specs.Rules.{Rule, is, series, many}
 use Rattle.sql_text.specs.Grammar.{sign_of, literal, column, joined, plain_expr, term_over, addend, addend_over, summed, expr_over, factor, expr}
 use Rattle.sql_text.specs.Printing.{literal_text, column_text, joined_text, Shown, opening, closing, at_level, sign_text, part_text, sum_text, expr_layer_text, addend_layer_text, shown_expr, shown_addend, expr_text}
 use Rattle.sql_text.specs.Reading.{factor_at, term_by, expr_by}

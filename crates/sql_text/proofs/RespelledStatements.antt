@@ -12,8 +12,8 @@ use Rattle.sql_text.specs.declared.token.Fixed.TheVariants.{Delete, For, From, I
 use Rattle.sql_text.specs.declared.token.Token.{Token}
 use Rattle.sql_text.specs.declared.token.Token.TheVariants as tokens
 use Rattle.sql_text.specs.Rules.{is, ◌▷◌, series, at_most_further, parenthesized, optional}
-use Rattle.sql_text.specs.Grammar.{name, literal, alias, cond as cond_rule, expr, tuple, column_list, insert, item, select_items, where_cond, lock, locked, select, assignment, update, delete, body, statement}
-use Rattle.sql_text.specs.Printing.{literal_text, name_text, joined_text, column_text, literals_text, cond_text, alias_text, item_text, items_text, where_text, columns_text, tuple_text, expr_text, lock_text, locked_text, assignment_text, printed}
+use Rattle.sql_text.specs.Grammar.{name, literal, alias, cond as cond_rule, expr, tuple, column_list, insert, item, aggregate_item, select_items, where_cond, lock, locked, select, assignment, update, delete, body, statement}
+use Rattle.sql_text.specs.Printing.{literal_text, name_text, joined_text, column_text, literals_text, cond_text, alias_text, item_text, aggregate_item_text, items_text, where_text, columns_text, tuple_text, expr_text, order_text, limit_text, lock_text, locked_text, assignment_text, printed}
 use Rattle.sql_text.proofs.Written.{Atom, Suffix, prefix_of, nothing_behind, atom_suffix, prefix_atom, separator_atom, suffix_suffix, separator_alone}
 use Rattle.sql_text.proofs.Lexemes as lexemes
 use Rattle.sql_text.proofs.Sound.{Sounds}
@@ -21,6 +21,8 @@ use Rattle.sql_text.proofs.Told.{Respells, first_sound, second_sound, mapped, un
 use Rattle.sql_text.proofs.Respelled.{alias_told, column_told, enclosed_told, few_told, literal_told, name_told, series_told, table_told}
 use Rattle.sql_text.proofs.RespelledConds.{cond_told}
 use Rattle.sql_text.proofs.RespelledExprs.{expr_told}
+use Rattle.sql_text.proofs.RespelledAggregates.{aggregate_item_told}
+use Rattle.sql_text.proofs.RespelledOrders.{order_told, limit_told}
 
 module _ (change : Token → Token) (fixes : lexemes.Fixes change) where
   -- ---- statements
@@ -117,18 +119,27 @@ module _ (change : Token → Token) (fixes : lexemes.Fixes change) where
   star_atom : (Atom change) (codes "*") (tokens.Fixed Star ∷ [])
   star_atom = (separator_alone change) (codes "*") (tokens.Fixed Star ∷ []) (lexemes.star_symbol change fixes)
 
-  items_told : Respells (Atom change) select_items items_text
-  items_told i ts (inl (rest, e, h)) sound =
-      retold (Atom change) select_items items_text i items.All h.0
+  items_told : (depth : ℕ) → Respells (Atom change) (select_items depth) items_text
+  items_told depth i ts (inl (rest, e, h)) sound =
+      retold (Atom change) (select_items depth) items_text i items.All h.0
       (tokens.Fixed Star ∷ [], inl ([], refl, (refl, refl)), star_atom)
-  items_told i ts (inr (x, s)) sound =
+  items_told depth i ts (inr (inl (x, s))) sound =
       let u = unmapped (at_most_further 899 Comma item) (λ l. items.Columns (x ∷ l)) i s.rest s.second in
       let a = item_told x s.front s.first (first_sound s sound) in
       let b = (few_told change fixes) 899 Comma item item_text (codes ", ") (lexemes.spaced_comma change fixes) item_told u.0 s.rest u.2 (second_sound s sound) in
-      retold (Atom change) select_items items_text i (items.Columns (x ∷ u.0)) u.1 (
+      retold (Atom change) (select_items depth) items_text i (items.Columns (x ∷ u.0)) u.1 (
         a.0 ++ b.0,
-        inr (x, record { front = a.0; rest = b.0; whole = refl; first = a.1; second = mapped (at_most_further 899 Comma item) (λ l. is (items.Columns (x ∷ l))) u.0 (items.Columns (x ∷ u.0)) b.0 b.1 (refl, refl) }),
+        inr (inl (x, record { front = a.0; rest = b.0; whole = refl; first = a.1; second = mapped (at_most_further 899 Comma item) (λ l. is (items.Columns (x ∷ l))) u.0 (items.Columns (x ∷ u.0)) b.0 b.1 (refl, refl) })),
         (atom_suffix change) (item_text x) (flat_map (λ y. codes ", " ++ y) (map item_text u.0)) a.0 b.0 a.2 b.2,
+      )
+  items_told depth i ts (inr (inr (x, s))) sound =
+      let u = unmapped (at_most_further 899 Comma (aggregate_item depth)) (λ l. items.Aggregates (x ∷ l)) i s.rest s.second in
+      let a = (aggregate_item_told change fixes) depth x s.front s.first (first_sound s sound) in
+      let b = (few_told change fixes) 899 Comma (aggregate_item depth) aggregate_item_text (codes ", ") (lexemes.spaced_comma change fixes) ((aggregate_item_told change fixes) depth) u.0 s.rest u.2 (second_sound s sound) in
+      retold (Atom change) (select_items depth) items_text i (items.Aggregates (x ∷ u.0)) u.1 (
+        a.0 ++ b.0,
+        inr (inr (x, record { front = a.0; rest = b.0; whole = refl; first = a.1; second = mapped (at_most_further 899 Comma (aggregate_item depth)) (λ l. is (items.Aggregates (x ∷ l))) u.0 (items.Aggregates (x ∷ u.0)) b.0 b.1 (refl, refl) })),
+        (atom_suffix change) (aggregate_item_text x) (flat_map (λ y. codes ", " ++ y) (map aggregate_item_text u.0)) a.0 b.0 a.2 b.2,
       )
 
   pub where_told : (depth : ℕ) → Respells (Suffix change) (where_cond depth) where_text
@@ -167,21 +178,29 @@ module _ (change : Token → Token) (fixes : lexemes.Fixes change) where
       let t = f.2 in
       let w = t.1.second in
       let after_tab : Sounds t.1.rest = second_sound t.1 after_from in
-      let u = unmapped locked (λ m. statements.Select (record { items = i; tab = t.0; cond = w.0; lock = m })) x w.1.rest w.1.second in
+      let o = w.1.second in
+      let after_where : Sounds w.1.rest = second_sound w.1 after_tab in
+      let l = o.1.second in
+      let after_order : Sounds o.1.rest = second_sound o.1 after_where in
+      let u = unmapped locked (λ m. statements.Select (record { items = i; tab = t.0; cond = w.0; order = o.0; limit = l.0; lock = m })) x l.1.rest l.1.second in
       let n = t.1.first in
       let k = unmapped alias (λ a. record { table = n.0; alias = a }) t.0 n.1.rest n.1.second in
       let in_tab : Sounds t.1.front = first_sound t.1 after_from in
-      let a = items_told i s.front s.first (first_sound s inside) in
+      let a = items_told depth i s.front s.first (first_sound s inside) in
       let b = (table_told change fixes) n.0 n.1.front n.1.first (first_sound n.1 in_tab) in
       let c = (alias_told change fixes) k.0 n.1.rest k.2 (second_sound n.1 in_tab) in
       let d = where_told depth w.0 w.1.front w.1.first (first_sound w.1 after_tab) in
-      let m = locked_told u.0 w.1.rest u.2 (second_sound w.1 after_tab) in
+      let p = (order_told change fixes) i o.0 o.1.front o.1.first (first_sound o.1 after_where) in
+      let q = (limit_told change fixes) i l.0 l.1.front l.1.first (first_sound l.1 after_order) in
+      let m = locked_told u.0 l.1.rest u.2 (second_sound l.1 after_order) in
       let from : Tab = record { table = n.0; alias = k.0 } in
-      let value : Statement = statements.Select (record { items = i; tab = from; cond = w.0; lock = u.0 }) in
-      let same : x ≡ value = u.1 ∙ ap (λ (v : Tab). statements.Select (record { items = i; tab = v; cond = w.0; lock = u.0 })) k.1 in
+      let value : Statement = statements.Select (record { items = i; tab = from; cond = w.0; order = o.0; limit = l.0; lock = u.0 }) in
+      let same : x ≡ value = u.1 ∙ ap (λ (v : Tab). statements.Select (record { items = i; tab = v; cond = w.0; order = o.0; limit = l.0; lock = u.0 })) k.1 in
       let source : List Token = b.0 ++ c.0 in
-      let end : List Token = d.0 ++ m.0 in
-      let behind : List ℕ = alias_text k.0 ++ (where_text w.0 ++ locked_text u.0) in
+      let last : List Token = p.0 ++ (q.0 ++ m.0) in
+      let end : List Token = d.0 ++ last in
+      let last_text : List ℕ = order_text o.0 ++ (limit_text l.0 ++ locked_text u.0) in
+      let behind : List ℕ = alias_text k.0 ++ (where_text w.0 ++ last_text) in
       retold (Atom change) (select depth) printed x value same (
         tokens.Fixed Select ∷ (a.0 ++ (tokens.Fixed From ∷ (source ++ end))),
         (
@@ -208,10 +227,28 @@ module _ (change : Token → Token) (fixes : lexemes.Fixes change) where
                       w.0,
                       record {
                         front = d.0;
-                        rest = m.0;
+                        rest = last;
                         whole = refl;
                         first = d.1;
-                        second = mapped locked (λ v. is (statements.Select (record { items = i; tab = from; cond = w.0; lock = v }))) u.0 value m.0 m.1 (refl, refl);
+                        second = (
+                          o.0,
+                          record {
+                            front = p.0;
+                            rest = q.0 ++ m.0;
+                            whole = refl;
+                            first = p.1;
+                            second = (
+                              l.0,
+                              record {
+                                front = q.0;
+                                rest = m.0;
+                                whole = refl;
+                                first = q.1;
+                                second = mapped locked (λ v. is (statements.Select (record { items = i; tab = from; cond = w.0; order = o.0; limit = l.0; lock = v }))) u.0 value m.0 m.1 (refl, refl);
+                              },
+                            );
+                          },
+                        );
                       },
                     );
                   },
@@ -220,13 +257,15 @@ module _ (change : Token → Token) (fixes : lexemes.Fixes change) where
             },
           ),
         ),
-        subst (λ (l : List Token). (Atom change) (codes "SELECT " ++ (items_text i ++ (codes " FROM " ++ (name_text n.0 ++ behind)))) (tokens.Fixed Select ∷ (a.0 ++ (tokens.Fixed From ∷ l)))) (sym (append_assoc b.0 c.0 end))
+        subst (λ (v : List Token). (Atom change) (codes "SELECT " ++ (items_text i ++ (codes " FROM " ++ (name_text n.0 ++ behind)))) (tokens.Fixed Select ∷ (a.0 ++ (tokens.Fixed From ∷ v)))) (sym (append_assoc b.0 c.0 end))
             ((prefix_atom change) (codes "SELECT ") (items_text i ++ (codes " FROM " ++ (name_text n.0 ++ behind))) (tokens.Fixed Select ∷ []) (a.0 ++ (tokens.Fixed From ∷ (b.0 ++ (c.0 ++ end)))) (lexemes.select_prefix change fixes)
             ((atom_suffix change) (items_text i) (codes " FROM " ++ (name_text n.0 ++ behind)) a.0 (tokens.Fixed From ∷ (b.0 ++ (c.0 ++ end))) a.2
             ((separator_atom change) (codes " FROM ") (name_text n.0 ++ behind) (tokens.Fixed From ∷ []) (b.0 ++ (c.0 ++ end)) (lexemes.from_text change fixes)
             ((atom_suffix change) (name_text n.0) behind b.0 (c.0 ++ end) b.2
-            ((suffix_suffix change) (alias_text k.0) (where_text w.0 ++ locked_text u.0) c.0 end c.2
-            ((suffix_suffix change) (where_text w.0) (locked_text u.0) d.0 m.0 d.2 m.2)))))),
+            ((suffix_suffix change) (alias_text k.0) (where_text w.0 ++ last_text) c.0 end c.2
+            ((suffix_suffix change) (where_text w.0) last_text d.0 last d.2
+            ((suffix_suffix change) (order_text o.0) (limit_text l.0 ++ locked_text u.0) p.0 (q.0 ++ m.0) p.2
+            ((suffix_suffix change) (limit_text l.0) (locked_text u.0) q.0 m.0 q.2 m.2)))))))),
       )
 
   assignment_told : (depth : ℕ) → Respells (Atom change) (assignment depth) assignment_text

@@ -19,7 +19,7 @@ use Rattle.sql_text.specs.declared.token.Fixed.TheVariants.{Open, Close, Comma, 
 use Rattle.sql_text.specs.declared.token.Before.{Before}
 use Rattle.sql_text.specs.declared.token.Token.{Token}
 use Rattle.sql_text.specs.declared.token.Token.TheVariants as tokens
-use Rattle.sql_text.specs.Tokens.{run, value_after, word_token, keyword_of, word_at, digits_token, signed_token, sign_token, digits_at, signed_at, Plain, text_from, text_at, up_to, quoted_at, starts, rest_of, symbol_at, is_blank, comment_at, skipped, seen, other_at, lexeme_at, ends_operand, Placed, Step, placed, step_at, onward, tokens_within, at_start, placed_tokens, tokens_of}
+use Rattle.sql_text.specs.Tokens.{run, value_after, word_token, keyword_of, word_at, digits_token, signed_token, sign_token, digits_at, signed_at, Plain, text_from, text_at, up_to, quoted_at, starts, rest_of, symbol_at, is_blank, comment_at, skipped, seen, other_at, lexeme_at, Placed, Step, placed, step_at, onward, tokens_within, at_start, placed_tokens, tokens_of}
 use Rattle.sql_text.specs.Printing.{escaped}
 use Rattle.sql_text.proofs.Lexemes.{is_plain, plain_utf8}
 

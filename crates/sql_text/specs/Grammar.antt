@@ -1,6 +1,6 @@
 -- The grammar of statements, rule by rule.
-use Rattle.std.specs.Prelude.{if◌then◌else◌, ℕ, zero, suc, Bool, true, false, List, [], ◌∷◌, Option, Some, None, codes}
-use Rattle.std.specs.Prelude.{nat_eq}
+use Rattle.std.specs.Prelude.{if◌then◌else◌, ℕ, ℤ, pos, negsuc, zero, suc, ◌^◌, Bool, true, false, List, [], ◌∷◌, Option, Some, None, codes}
+use Rattle.std.specs.Prelude.{nat_eq, nat_lt}
 use Rattle.std.specs.Cmp.Lexicographic.{pointwise}
 use Rattle.sql_values.specs.declared.literal.Literal.{Literal}
 use Rattle.sql_values.specs.declared.literal.Literal.TheVariants as literals
@@ -21,9 +21,14 @@ use Rattle.sql_text.specs.declared.statement.Statement.TheVariants as statements
 use Rattle.sql_text.specs.declared.statement.SelectItems.{SelectItems}
 use Rattle.sql_text.specs.declared.statement.SelectItems.TheVariants as items
 use Rattle.sql_text.specs.declared.statement.Item.{Item}
+use Rattle.sql_text.specs.declared.statement.AggregateItem.{AggregateItem}
+use Rattle.sql_text.specs.declared.statement.SortItem.{SortItem}
+use Rattle.sql_text.specs.declared.statement.Limit.{Limit as RowLimit}
 use Rattle.sql_text.specs.declared.statement.Tab.{Tab}
 use Rattle.sql_text.specs.declared.statement.Assignment.{Assignment}
-use Rattle.sql_text.specs.declared.token.Fixed.TheVariants.{And, As, Between, Delete, For, From, In, Insert, Into, Lock, Mode, Not, Null, Or, Select, Set, Share, Update, Values, Where, Open, Close, Comma, Dot, Star, Plus, Minus, Semicolon, Equal, NotEqual, Less, AtMost, Greater, AtLeast}
+use Rattle.sql_text.specs.declared.link.AggregateCall.{AggregateCall}
+use Rattle.sql_text.specs.declared.link.AggregateCall.TheVariants as calls
+use Rattle.sql_text.specs.declared.token.Fixed.TheVariants.{And, As, Asc, Between, By, Count, Delete, Desc, For, From, In, Insert, Into, Limit, Lock, Max, Min, Mode, Not, Null, Offset, Or, Order, Select, Set, Share, Sum, Update, Values, Where, Open, Close, Comma, Dot, Star, Plus, Minus, Semicolon, Equal, NotEqual, Less, AtMost, Greater, AtLeast}
 use Rattle.sql_text.specs.declared.token.Token.{Token}
 use Rattle.sql_text.specs.declared.token.Token.TheVariants as tokens
 use Rattle.sql_text.specs.Rules.{Rule, is, one, ◌⊳◌, ◌▷◌, ◌∣◌, optional, many, series, at_most_further, parenthesized}
@@ -56,6 +61,15 @@ abbrev pub sign_of : Token → Option Bool
 sign_of (tokens.Fixed Plus) = Some false
 sign_of (tokens.Fixed Minus) = Some true
 sign_of _ = None
+
+abbrev pub count : ℤ → Option ℕ
+count (pos n) = if nat_lt n (2 ^ 64) then Some n else None
+count (negsuc n) = None
+
+-- a count of rows, of 64 bits
+abbrev pub count_of : Token → Option ℕ
+count_of (tokens.Digits n) = count n
+count_of _ = None
 
 -- the word `spider` as it is written
 abbrev pub is_spider : Token → Bool
@@ -170,6 +184,17 @@ factor (suc depth) e ts =
 abbrev pub expr : ℕ → Rule Expr
 expr depth = expr_over (factor depth)
 
+-- AGGREGATES
+
+-- a column in parentheses, as an aggregate has it
+abbrev pub of_column : (ColumnName → AggregateCall) → ℕ → Rule AggregateCall
+of_column call depth = parenthesized column depth ▷ λ c. is (call c)
+
+-- aggregate = COUNT "(" "*" ")" | (SUM | MIN | MAX) "(" column ")"
+abbrev pub aggregate : ℕ → Rule AggregateCall
+aggregate depth =
+    (Count ⊳ parenthesized (Star ⊳ is calls.Count) depth) ∣ (Sum ⊳ of_column calls.Sum depth) ∣ (Min ⊳ of_column calls.Min depth) ∣ (Max ⊳ of_column calls.Max depth)
+
 -- STATEMENTS
 
 -- tuple = "(" literal {"," literal} ")"
@@ -189,9 +214,21 @@ insert depth =
 abbrev pub item : Rule Item
 item = column ▷ λ c. alias ▷ λ a. is (record { column = c; alias = a })
 
--- items = "*" | item {"," item}, at most 900 of them
-abbrev pub select_items : Rule SelectItems
-select_items = (Star ⊳ is items.All) ∣ (item ▷ λ i. at_most_further 899 Comma item ▷ λ l. is (items.Columns (i ∷ l)))
+-- item {"," item}, at most 900 of them
+abbrev pub column_items : Rule SelectItems
+column_items = item ▷ λ i. at_most_further 899 Comma item ▷ λ l. is (items.Columns (i ∷ l))
+
+-- aggregate_item = aggregate [[AS] name]
+abbrev pub aggregate_item : ℕ → Rule AggregateItem
+aggregate_item depth = aggregate depth ▷ λ c. alias ▷ λ a. is (record { call = c; alias = a })
+
+-- aggregate_item {"," aggregate_item}, at most 900 of them
+abbrev pub aggregate_items : ℕ → Rule SelectItems
+aggregate_items depth = aggregate_item depth ▷ λ i. at_most_further 899 Comma (aggregate_item depth) ▷ λ l. is (items.Aggregates (i ∷ l))
+
+-- items = "*" | item {"," item} | aggregate_item {"," aggregate_item}
+abbrev pub select_items : ℕ → Rule SelectItems
+select_items depth = (Star ⊳ is items.All) ∣ column_items ∣ aggregate_items depth
 
 -- tab = table [[AS] name]
 abbrev pub tab : Rule Tab
@@ -200,6 +237,39 @@ tab = table ▷ λ t. alias ▷ λ a. is (record { table = t; alias = a })
 abbrev pub where_cond : ℕ → Rule (Option Cond)
 where_cond depth = (Where ⊳ (cond depth ▷ λ c. is (Some c))) ∣ is None
 
+-- [ASC | DESC], and whether rows are sorted rising
+abbrev pub direction : Rule Bool
+direction = (Asc ⊳ is true) ∣ (Desc ⊳ is false) ∣ is true
+
+-- sort = column [ASC | DESC]
+abbrev pub sort : Rule SortItem
+sort = column ▷ λ c. direction ▷ λ d. is (record { column = c; rising = d })
+
+-- [ORDER BY sort {"," sort}]
+abbrev pub sorts : Rule (List SortItem)
+sorts = (Order ⊳ (By ⊳ series Comma sort)) ∣ is []
+
+-- order = [ORDER BY sort {"," sort}], but none where the items are aggregates
+abbrev pub order : SelectItems → Rule (List SortItem)
+order items.All = sorts
+order (items.Columns l) = sorts
+order (items.Aggregates l) = is []
+
+-- what stands behind the first count of a limit: OFFSET and the offset, or a comma and the count, where the first one is the offset, or nothing
+abbrev pub behind_count : ℕ → Rule RowLimit
+behind_count n =
+    (Offset ⊳ (one count_of ▷ λ m. is (record { count = n; offset = m }))) ∣ (Comma ⊳ (one count_of ▷ λ m. is (record { count = m; offset = n }))) ∣ is (record { count = n; offset = 0 })
+
+-- [LIMIT digits [OFFSET digits] | LIMIT digits "," digits]
+abbrev pub limits : Rule (Option RowLimit)
+limits = (Limit ⊳ (one count_of ▷ λ n. behind_count n ▷ λ l. is (Some l))) ∣ is None
+
+-- limit = [LIMIT digits [OFFSET digits] | LIMIT digits "," digits], but none where the items are aggregates
+abbrev pub limit : SelectItems → Rule (Option RowLimit)
+limit items.All = limits
+limit (items.Columns l) = limits
+limit (items.Aggregates l) = is None
+
 -- lock = LOCK IN SHARE MODE | FOR UPDATE
 abbrev pub lock : Rule LockMode
 lock = (Lock ⊳ (In ⊳ (Share ⊳ (Mode ⊳ is locks.Shared)))) ∣ (For ⊳ (Update ⊳ is locks.Exclusive))
@@ -207,11 +277,11 @@ lock = (Lock ⊳ (In ⊳ (Share ⊳ (Mode ⊳ is locks.Shared)))) ∣ (For ⊳ (
 abbrev pub locked : Rule (Option LockMode)
 locked = (lock ▷ λ m. is (Some m)) ∣ is None
 
--- select = SELECT items FROM tab [WHERE cond] [lock]
+-- select = SELECT items FROM tab [WHERE cond] order limit [lock]
 abbrev pub select : ℕ → Rule Statement
 select depth =
-    Select ⊳ (select_items ▷ λ i. From ⊳ (tab ▷ λ t. where_cond depth ▷ λ c. locked ▷ λ m.
-    is (statements.Select (record { items = i; tab = t; cond = c; lock = m }))))
+    Select ⊳ (select_items depth ▷ λ i. From ⊳ (tab ▷ λ t. where_cond depth ▷ λ c. order i ▷ λ o. limit i ▷ λ l. locked ▷ λ m.
+    is (statements.Select (record { items = i; tab = t; cond = c; order = o; limit = l; lock = m }))))
 
 -- name "=" expr
 abbrev pub assignment : ℕ → Rule Assignment

@@ -1,5 +1,5 @@
 -- The grammar of what a front asks a backend, rule by rule.
-use Rattle.std.specs.Prelude.{ℕ, ℤ, pos, negsuc, ◌^◌, ◌==◌, List, ◌∷◌, length, Option, Some, None, nat_lt, nat_le, if◌then◌else◌}
+use Rattle.std.specs.Prelude.{ℕ, ℤ, pos, negsuc, ◌==◌, List, ◌∷◌, length, Option, Some, None, nat_le, if◌then◌else◌}
 use Rattle.sql_values.specs.declared.value.Value.{Value}
 use Rattle.sql_values.specs.declared.value.Value.TheVariants as values
 use Rattle.sql_values.specs.declared.places.Xid.{Xid}
@@ -7,15 +7,12 @@ use Rattle.sql_text.specs.declared.link.LinkRequest.{LinkRequest}
 use Rattle.sql_text.specs.declared.link.LinkRequest.TheVariants as requests
 use Rattle.sql_text.specs.declared.link.ScanItems.{ScanItems}
 use Rattle.sql_text.specs.declared.link.ScanItems.TheVariants as scanned
-use Rattle.sql_text.specs.declared.link.AggregateCall.{AggregateCall}
-use Rattle.sql_text.specs.declared.link.AggregateCall.TheVariants as calls
-use Rattle.sql_text.specs.declared.token.Fixed.TheVariants.{And, Between, Delete, From, In, Into, Select, Values, Where, Comma, Star, Semicolon, By, Commit, Count, End, Limit, Max, Min, Order, Prepare, Recover, Replace, Rollback, Start, Sum, Xa}
+use Rattle.sql_text.specs.declared.token.Fixed.TheVariants.{And, Between, By, Delete, From, In, Into, Limit, Order, Select, Values, Where, Commit, End, Prepare, Recover, Replace, Rollback, Start, Xa, Comma, Star, Semicolon}
 use Rattle.sql_text.specs.declared.token.Token.{Token}
 use Rattle.sql_text.specs.declared.token.Token.TheVariants as tokens
 use Rattle.sql_text.specs.Rules.{Rule, is, one, ◌⊳◌, ◌▷◌, ◌∣◌, optional, series, at_most_further, parenthesized}
-use Rattle.sql_values.specs.declared.tree.ColumnName.{ColumnName}
 use Rattle.sql_values.specs.Expressions.{big_int}
-use Rattle.sql_text.specs.Grammar.{name, column, where_cond, lock}
+use Rattle.sql_text.specs.Grammar.{count_of, name, aggregate, where_cond, lock}
 
 -- THE VALUES OF SINGLE TOKENS
 
@@ -35,15 +32,6 @@ value_of (tokens.Digits n) = as_number (big_int n)
 value_of (tokens.Signed n) = as_number (big_int n)
 value_of (tokens.Text t) = Some (values.Text t)
 value_of _ = None
-
-abbrev pub count : ℤ → Option ℕ
-count (pos n) = if nat_lt n (2 ^ 64) then Some n else None
-count (negsuc n) = None
-
--- a count of rows, of 64 bits
-abbrev pub count_of : Token → Option ℕ
-count_of (tokens.Digits n) = count n
-count_of _ = None
 
 -- a part of a branch's name: a text of at most 64 bytes
 abbrev pub part_of : Token → Option (List ℕ)
@@ -72,15 +60,6 @@ branch =
     ∣ (Commit ⊳ (xid ▷ λ x. is (requests.Commit x))) ∣ (Rollback ⊳ (xid ▷ λ x. is (requests.Rollback x))) ∣ (Recover ⊳ is requests.Recover))
 
 -- SCANS
-
--- a column in parentheses, as an aggregate has it
-abbrev pub of_column : (ColumnName → AggregateCall) → ℕ → Rule AggregateCall
-of_column call depth = parenthesized column depth ▷ λ c. is (call c)
-
--- aggregate = COUNT "(" "*" ")" | (SUM | MIN | MAX) "(" column ")"
-abbrev pub aggregate : ℕ → Rule AggregateCall
-aggregate depth =
-    (Count ⊳ parenthesized (Star ⊳ is calls.Count) depth) ∣ (Sum ⊳ of_column calls.Sum depth) ∣ (Min ⊳ of_column calls.Min depth) ∣ (Max ⊳ of_column calls.Max depth)
 
 -- items = "*" | aggregate {"," aggregate}, at most 1,000 of them
 abbrev pub scan_items : ℕ → Rule ScanItems

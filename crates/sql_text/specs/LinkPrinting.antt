@@ -8,9 +8,7 @@ use Rattle.sql_text.specs.declared.link.LinkRequest.{LinkRequest}
 use Rattle.sql_text.specs.declared.link.LinkRequest.TheVariants as requests
 use Rattle.sql_text.specs.declared.link.ScanItems.{ScanItems}
 use Rattle.sql_text.specs.declared.link.ScanItems.TheVariants as scanned
-use Rattle.sql_text.specs.declared.link.AggregateCall.{AggregateCall}
-use Rattle.sql_text.specs.declared.link.AggregateCall.TheVariants as calls
-use Rattle.sql_text.specs.Printing.{quoted, name_text, joined_text, column_text, where_text, lock_text}
+use Rattle.sql_text.specs.Printing.{quoted, name_text, joined_text, call_text, where_text, lock_text}
 
 -- the name of a branch, with the format 1
 abbrev pub xid_text : Xid → List ℕ
@@ -22,12 +20,6 @@ value_text (values.Text t) = quoted t
 
 abbrev pub row_text : List Value → List ℕ
 row_text r = codes "(" ++ (joined_text (codes ",") (map value_text r) ++ codes ")")
-
-abbrev pub call_text : AggregateCall → List ℕ
-call_text calls.Count = codes "COUNT(*)"
-call_text (calls.Sum c) = codes "SUM(" ++ (column_text c ++ codes ")")
-call_text (calls.Min c) = codes "MIN(" ++ (column_text c ++ codes ")")
-call_text (calls.Max c) = codes "MAX(" ++ (column_text c ++ codes ")")
 
 abbrev pub scan_items_text : ScanItems → List ℕ
 scan_items_text scanned.All = codes "*"

@@ -1,19 +1,17 @@
 -- Reading the tokens of a link text from left to right.
 use Rattle.std.specs.Prelude.{ℕ, ℤ, List, [], ◌∷◌, Option, Some, None, Result, Ok, if◌then◌else◌}
-use Rattle.sql_values.specs.declared.tree.ColumnName.{ColumnName}
 use Rattle.sql_values.specs.declared.value.Value.{Value}
 use Rattle.sql_values.specs.declared.places.Xid.{Xid}
 use Rattle.sql_text.specs.declared.link.LinkRequest.{LinkRequest}
 use Rattle.sql_text.specs.declared.link.LinkRequest.TheVariants as requests
 use Rattle.sql_text.specs.declared.link.ScanItems.{ScanItems}
 use Rattle.sql_text.specs.declared.link.ScanItems.TheVariants as scanned
-use Rattle.sql_text.specs.declared.link.AggregateCall.{AggregateCall}
-use Rattle.sql_text.specs.declared.link.AggregateCall.TheVariants as calls
-use Rattle.sql_text.specs.declared.token.Fixed.TheVariants.{And, Between, Delete, From, In, Into, Select, Values, Where, Comma, Star, Semicolon, By, Commit, Count, End, Limit, Max, Min, Order, Prepare, Recover, Replace, Rollback, Start, Sum, Xa}
+use Rattle.sql_text.specs.declared.token.Fixed.TheVariants.{And, Between, By, Delete, From, In, Into, Limit, Order, Select, Values, Where, Commit, End, Prepare, Recover, Replace, Rollback, Start, Xa, Comma, Star, Semicolon}
 use Rattle.sql_text.specs.declared.token.Token.{Token}
 use Rattle.sql_text.specs.declared.fault.Stop.{Stop}
-use Rattle.sql_text.specs.Reading.{◌>>=◌, begins, behind, expect, optional_at, one_at, name_at, column_at, where_at, lock_at, series_at, further_at, with_front, parenthesized_at, ended}
-use Rattle.sql_text.specs.LinkGrammar.{key_of, value_of, count_of, part_of, format_of}
+use Rattle.sql_text.specs.Reading.{◌>>=◌, begins, behind, expect, optional_at, one_at, name_at, aggregate_at, where_at, lock_at, series_at, further_at, with_front, parenthesized_at, ended}
+use Rattle.sql_text.specs.Grammar.{count_of}
+use Rattle.sql_text.specs.LinkGrammar.{key_of, value_of, part_of, format_of}
 
 -- ---- branches
 
@@ -38,22 +36,6 @@ unfoldable pub branch_at : List Token → Result (LinkRequest × List Token) Sto
 branch_at ts = expect Xa ts >>= behind_xa_at
 
 -- ---- scans
-
-unfoldable pub star_at : List Token → Result (AggregateCall × List Token) Stop
-star_at ts = expect Star ts >>= λ rest. Ok (calls.Count, rest)
-
-unfoldable pub count_at : ℕ → List Token → Result (AggregateCall × List Token) Stop
-count_at depth ts = parenthesized_at star_at depth ts
-
-abbrev pub of_column_at : (ColumnName → AggregateCall) → ℕ → List Token → Result (AggregateCall × List Token) Stop
-of_column_at call depth ts = parenthesized_at column_at depth ts >>= λ c. Ok (call c.0, c.1)
-
-unfoldable pub aggregate_at : ℕ → List Token → Result (AggregateCall × List Token) Stop
-aggregate_at depth ts =
-    if begins Count ts then count_at depth (behind ts)
-    else (if begins Sum ts then of_column_at calls.Sum depth (behind ts)
-    else (if begins Min ts then of_column_at calls.Min depth (behind ts)
-    else (expect Max ts >>= of_column_at calls.Max depth)))
 
 unfoldable pub scan_items_at : ℕ → List Token → Result (ScanItems × List Token) Stop
 scan_items_at depth ts =

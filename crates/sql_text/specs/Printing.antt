@@ -1,5 +1,5 @@
 -- The canonical text of a statement.
-use Rattle.std.specs.Prelude.{ℕ, ◌++◌, ◌==◌, Bool, true, false, List, [], ◌∷◌, map, Option, Some, None, if◌then◌else◌, nat_lt, codes}
+use Rattle.std.specs.Prelude.{ℕ, pos, ◌++◌, ◌==◌, Bool, true, false, List, [], ◌∷◌, map, Option, Some, None, if◌then◌else◌, nat_lt, codes}
 use Rattle.std.specs.List.{flat_map}
 use Rattle.std.specs.Fmt.{signed_decimal}
 use Rattle.sql_values.specs.declared.literal.Literal.{Literal}
@@ -22,7 +22,12 @@ use Rattle.sql_text.specs.declared.statement.Statement.TheVariants as statements
 use Rattle.sql_text.specs.declared.statement.SelectItems.{SelectItems}
 use Rattle.sql_text.specs.declared.statement.SelectItems.TheVariants as items
 use Rattle.sql_text.specs.declared.statement.Item.{Item}
+use Rattle.sql_text.specs.declared.statement.AggregateItem.{AggregateItem}
+use Rattle.sql_text.specs.declared.statement.SortItem.{SortItem}
+use Rattle.sql_text.specs.declared.statement.Limit.{Limit}
 use Rattle.sql_text.specs.declared.statement.Assignment.{Assignment}
+use Rattle.sql_text.specs.declared.link.AggregateCall.{AggregateCall}
+use Rattle.sql_text.specs.declared.link.AggregateCall.TheVariants as calls
 
 -- a byte of a text, as it stands in a literal
 abbrev pub escaped : ℕ → List ℕ
@@ -148,9 +153,19 @@ alias_text (Some n) = codes " AS " ++ name_text n
 abbrev pub item_text : Item → List ℕ
 item_text i = column_text i.column ++ alias_text i.alias
 
+abbrev pub call_text : AggregateCall → List ℕ
+call_text calls.Count = codes "COUNT(*)"
+call_text (calls.Sum c) = codes "SUM(" ++ (column_text c ++ codes ")")
+call_text (calls.Min c) = codes "MIN(" ++ (column_text c ++ codes ")")
+call_text (calls.Max c) = codes "MAX(" ++ (column_text c ++ codes ")")
+
+abbrev pub aggregate_item_text : AggregateItem → List ℕ
+aggregate_item_text i = call_text i.call ++ alias_text i.alias
+
 abbrev pub items_text : SelectItems → List ℕ
 items_text items.All = codes "*"
 items_text (items.Columns l) = joined_text (codes ", ") (map item_text l)
+items_text (items.Aggregates l) = joined_text (codes ", ") (map aggregate_item_text l)
 
 abbrev pub where_text : Option Cond → List ℕ
 where_text None = []
@@ -162,6 +177,26 @@ columns_text (Some l) = codes " (" ++ (joined_text (codes ", ") (map name_text l
 
 abbrev pub tuple_text : List Literal → List ℕ
 tuple_text ls = codes "(" ++ (literals_text ls ++ codes ")")
+
+-- rising is what it is without a word
+abbrev pub direction_text : Bool → List ℕ
+direction_text true = []
+direction_text false = codes " DESC"
+
+abbrev pub sort_text : SortItem → List ℕ
+sort_text s = column_text s.column ++ direction_text s.rising
+
+abbrev pub order_text : List SortItem → List ℕ
+order_text [] = []
+order_text (s ∷ l) = codes " ORDER BY " ++ joined_text (codes ", ") (map sort_text (s ∷ l))
+
+-- an offset of 0 is what it is without OFFSET
+abbrev pub offset_text : ℕ → List ℕ
+offset_text n = if n == 0 then [] else codes " OFFSET " ++ signed_decimal (pos n)
+
+abbrev pub limit_text : Option Limit → List ℕ
+limit_text None = []
+limit_text (Some l) = codes " LIMIT " ++ (signed_decimal (pos l.count) ++ offset_text l.offset)
 
 abbrev pub lock_text : LockMode → List ℕ
 lock_text locks.Shared = codes " LOCK IN SHARE MODE"
@@ -177,6 +212,6 @@ assignment_text a = name_text a.column ++ (codes " = " ++ expr_text a.value)
 -- the canonical text
 unfoldable pub printed : Statement → List ℕ
 printed (statements.Insert i) = codes "INSERT INTO " ++ (name_text i.table ++ (columns_text i.columns ++ (codes " VALUES " ++ joined_text (codes ",") (map tuple_text i.rows))))
-printed (statements.Select s) = codes "SELECT " ++ (items_text s.items ++ (codes " FROM " ++ (name_text s.tab.table ++ (alias_text s.tab.alias ++ (where_text s.cond ++ locked_text s.lock)))))
+printed (statements.Select s) = codes "SELECT " ++ (items_text s.items ++ (codes " FROM " ++ (name_text s.tab.table ++ (alias_text s.tab.alias ++ (where_text s.cond ++ (order_text s.order ++ (limit_text s.limit ++ locked_text s.lock)))))))
 printed (statements.Update u) = codes "UPDATE " ++ (name_text u.table ++ (codes " SET " ++ (joined_text (codes ", ") (map assignment_text u.sets) ++ where_text u.cond)))
 printed (statements.Delete d) = codes "DELETE FROM " ++ (name_text d.table ++ where_text d.cond)

@@ -16,16 +16,21 @@ use Rattle.sql_text.specs.declared.statement.Statement.TheVariants as statements
 use Rattle.sql_text.specs.declared.statement.SelectItems.{SelectItems}
 use Rattle.sql_text.specs.declared.statement.SelectItems.TheVariants as items
 use Rattle.sql_text.specs.declared.statement.Item.{Item}
+use Rattle.sql_text.specs.declared.statement.AggregateItem.{AggregateItem}
+use Rattle.sql_text.specs.declared.statement.SortItem.{SortItem}
+use Rattle.sql_text.specs.declared.statement.Limit.{Limit as RowLimit}
 use Rattle.sql_text.specs.declared.statement.Tab.{Tab}
 use Rattle.sql_text.specs.declared.statement.Assignment.{Assignment}
+use Rattle.sql_text.specs.declared.link.AggregateCall.{AggregateCall}
+use Rattle.sql_text.specs.declared.link.AggregateCall.TheVariants as calls
 use Rattle.sql_text.specs.declared.token.Fixed.{Fixed}
-use Rattle.sql_text.specs.declared.token.Fixed.TheVariants.{And, As, Between, Delete, For, From, In, Insert, Into, Lock, Mode, Not, Null, Or, Select, Set, Share, Update, Values, Where, By, Commit, Count, End, Limit, Max, Min, Order, Prepare, Recover, Replace, Rollback, Start, Sum, Xa, Open, Close, Comma, Dot, Star, Plus, Minus, Semicolon, Equal, NotEqual, Less, AtMost, Greater, AtLeast}
+use Rattle.sql_text.specs.declared.token.Fixed.TheVariants.{And, As, Asc, Between, By, Count, Delete, Desc, For, From, In, Insert, Into, Limit, Lock, Max, Min, Mode, Not, Null, Offset, Or, Order, Select, Set, Share, Sum, Update, Values, Where, Commit, End, Prepare, Recover, Replace, Rollback, Start, Xa, Open, Close, Comma, Dot, Star, Plus, Minus, Semicolon, Equal, NotEqual, Less, AtMost, Greater, AtLeast}
 use Rattle.sql_text.specs.declared.token.Token.{Token}
 use Rattle.sql_text.specs.declared.token.Token.TheVariants as tokens
 use Rattle.sql_text.specs.declared.fault.Stop.{Stop}
 use Rattle.sql_text.specs.declared.fault.ReadError.{ReadError}
 use Rattle.sql_text.specs.declared.fault.ReadError.TheVariants as errors
-use Rattle.sql_text.specs.Grammar.{name_of, literal_of, comparison_of, sign_of, is_spider, joined, addend}
+use Rattle.sql_text.specs.Grammar.{name_of, literal_of, comparison_of, sign_of, count_of, is_spider, joined, addend}
 
 -- FAULTS AND STEPS
 
@@ -101,6 +106,9 @@ number_of Xa = 45
 number_of Set = 46
 number_of Plus = 47
 number_of Minus = 48
+number_of Asc = 49
+number_of Desc = 50
+number_of Offset = 51
 
 abbrev pub is_fixed : Fixed → Token → Bool
 is_fixed f (tokens.Fixed g) = number_of g == number_of f
@@ -278,6 +286,24 @@ factor_at (suc depth) ts =
 unfoldable pub expr_at : ℕ → List Token → Result (Expr × List Token) Stop
 expr_at depth ts = expr_by (factor_at depth) ts
 
+-- AGGREGATES
+
+unfoldable pub star_at : List Token → Result (AggregateCall × List Token) Stop
+star_at ts = expect Star ts >>= λ rest. Ok (calls.Count, rest)
+
+unfoldable pub count_at : ℕ → List Token → Result (AggregateCall × List Token) Stop
+count_at depth ts = parenthesized_at star_at depth ts
+
+abbrev pub of_column_at : (ColumnName → AggregateCall) → ℕ → List Token → Result (AggregateCall × List Token) Stop
+of_column_at call depth ts = parenthesized_at column_at depth ts >>= λ c. Ok (call c.0, c.1)
+
+unfoldable pub aggregate_at : ℕ → List Token → Result (AggregateCall × List Token) Stop
+aggregate_at depth ts =
+    if begins Count ts then count_at depth (behind ts)
+    else (if begins Sum ts then of_column_at calls.Sum depth (behind ts)
+    else (if begins Min ts then of_column_at calls.Min depth (behind ts)
+    else (expect Max ts >>= of_column_at calls.Max depth)))
+
 -- STATEMENTS
 
 unfoldable pub column_list_at : ℕ → List Token → Result (Option (List (List ℕ)) × List Token) Stop
@@ -293,16 +319,62 @@ insert_at depth ts =
 unfoldable pub item_at : List Token → Result (Item × List Token) Stop
 item_at ts = column_at ts >>= λ c. alias_at c.1 >>= λ a. Ok (record { column = c.0; alias = a.0 }, a.1)
 
-unfoldable pub select_items_at : List Token → Result (SelectItems × List Token) Stop
-select_items_at ts =
+unfoldable pub column_items_at : List Token → Result (SelectItems × List Token) Stop
+column_items_at ts = item_at ts >>= λ i. with_front (i.0 ∷ []) (further_at 899 Comma item_at i.1) >>= λ l. Ok (items.Columns l.0, l.1)
+
+unfoldable pub aggregate_item_at : ℕ → List Token → Result (AggregateItem × List Token) Stop
+aggregate_item_at depth ts = aggregate_at depth ts >>= λ c. alias_at c.1 >>= λ a. Ok (record { call = c.0; alias = a.0 }, a.1)
+
+unfoldable pub aggregate_items_at : ℕ → List Token → Result (SelectItems × List Token) Stop
+aggregate_items_at depth ts =
+    aggregate_item_at depth ts >>= λ i. with_front (i.0 ∷ []) (further_at 899 Comma (aggregate_item_at depth) i.1) >>= λ l. Ok (items.Aggregates l.0, l.1)
+
+unfoldable pub select_items_at : ℕ → List Token → Result (SelectItems × List Token) Stop
+select_items_at depth ts =
     if begins Star ts then Ok (items.All, behind ts)
-    else (item_at ts >>= λ i. with_front (i.0 ∷ []) (further_at 899 Comma item_at i.1) >>= λ l. Ok (items.Columns l.0, l.1))
+    else (if stands name_of ts then column_items_at ts else aggregate_items_at depth ts)
 
 unfoldable pub tab_at : List Token → Result (Tab × List Token) Stop
 tab_at ts = table_at ts >>= λ t. alias_at t.1 >>= λ a. Ok (record { table = t.0; alias = a.0 }, a.1)
 
 unfoldable pub where_at : ℕ → List Token → Result (Option Cond × List Token) Stop
 where_at depth ts = if begins Where ts then (cond_at depth (behind ts) >>= λ c. Ok (Some c.0, c.1)) else Ok (None, ts)
+
+unfoldable pub direction_at : List Token → Result (Bool × List Token) Stop
+direction_at ts = if begins Asc ts then Ok (true, behind ts) else (if begins Desc ts then Ok (false, behind ts) else Ok (true, ts))
+
+unfoldable pub sort_at : List Token → Result (SortItem × List Token) Stop
+sort_at ts = column_at ts >>= λ c. direction_at c.1 >>= λ d. Ok (record { column = c.0; rising = d.0 }, d.1)
+
+-- what stands behind ORDER
+unfoldable pub sort_list_at : List Token → Result (List SortItem × List Token) Stop
+sort_list_at ts = expect By ts >>= series_at Comma sort_at
+
+unfoldable pub sorts_at : List Token → Result (List SortItem × List Token) Stop
+sorts_at ts = if begins Order ts then sort_list_at (behind ts) else Ok ([], ts)
+
+unfoldable pub order_at : SelectItems → List Token → Result (List SortItem × List Token) Stop
+order_at items.All ts = sorts_at ts
+order_at (items.Columns l) ts = sorts_at ts
+order_at (items.Aggregates l) ts = Ok ([], ts)
+
+unfoldable pub behind_count_at : ℕ → List Token → Result (RowLimit × List Token) Stop
+behind_count_at n ts =
+    if begins Offset ts then (one_at count_of (behind ts) >>= λ m. Ok (record { count = n; offset = m.0 }, m.1))
+    else (if begins Comma ts then (one_at count_of (behind ts) >>= λ m. Ok (record { count = m.0; offset = n }, m.1))
+    else Ok (record { count = n; offset = 0 }, ts))
+
+-- what stands behind LIMIT
+unfoldable pub counts_at : List Token → Result (Option RowLimit × List Token) Stop
+counts_at ts = one_at count_of ts >>= λ n. behind_count_at n.0 n.1 >>= λ l. Ok (Some l.0, l.1)
+
+unfoldable pub limits_at : List Token → Result (Option RowLimit × List Token) Stop
+limits_at ts = if begins Limit ts then counts_at (behind ts) else Ok (None, ts)
+
+unfoldable pub limit_at : SelectItems → List Token → Result (Option RowLimit × List Token) Stop
+limit_at items.All ts = limits_at ts
+limit_at (items.Columns l) ts = limits_at ts
+limit_at (items.Aggregates l) ts = Ok (None, ts)
 
 unfoldable pub share_at : List Token → Result (LockMode × List Token) Stop
 share_at ts = expect In ts >>= λ rest. expect Share rest >>= λ rest. expect Mode rest >>= λ rest. Ok (locks.Shared, rest)
@@ -318,8 +390,9 @@ locked_at ts = if begins Lock ts || begins For ts then (lock_at ts >>= λ m. Ok 
 
 unfoldable pub select_at : ℕ → List Token → Result (Statement × List Token) Stop
 select_at depth ts =
-    expect Select ts >>= λ rest. select_items_at rest >>= λ i. expect From i.1 >>= λ rest. tab_at rest >>= λ t. where_at depth t.1 >>= λ c. locked_at c.1 >>= λ m.
-    Ok (statements.Select (record { items = i.0; tab = t.0; cond = c.0; lock = m.0 }), m.1)
+    expect Select ts >>= λ rest. select_items_at depth rest >>= λ i. expect From i.1 >>= λ rest. tab_at rest >>= λ t. where_at depth t.1 >>= λ c.
+    order_at i.0 c.1 >>= λ o. limit_at i.0 o.1 >>= λ l. locked_at l.1 >>= λ m.
+    Ok (statements.Select (record { items = i.0; tab = t.0; cond = c.0; order = o.0; limit = l.0; lock = m.0 }), m.1)
 
 unfoldable pub assignment_at : ℕ → List Token → Result (Assignment × List Token) Stop
 assignment_at depth ts = name_at ts >>= λ n. expect Equal n.1 >>= λ rest. expr_at depth rest >>= λ e. Ok (record { column = n.0; value = e.0 }, e.1)

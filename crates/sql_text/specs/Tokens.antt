@@ -5,7 +5,7 @@ use Rattle.std.specs.Char.{is_ascii_digit, to_ascii_uppercase}
 use Rattle.std.specs.Str.Lossy.{utf8_lossy}
 use Rattle.sql_values.specs.Names.{is_name, begins_name, continues_name}
 use Rattle.sql_text.specs.declared.token.Fixed.{Fixed}
-use Rattle.sql_text.specs.declared.token.Fixed.TheVariants.{And, As, Between, Delete, For, From, In, Insert, Into, Lock, Mode, Not, Null, Or, Select, Set, Share, Update, Values, Where, By, Commit, Count, End, Limit, Max, Min, Order, Prepare, Recover, Replace, Rollback, Start, Sum, Xa, Open, Close, Comma, Dot, Star, Plus, Minus, Semicolon, Equal, NotEqual, Less, AtMost, Greater, AtLeast}
+use Rattle.sql_text.specs.declared.token.Fixed.TheVariants.{And, As, Asc, Between, By, Count, Delete, Desc, For, From, In, Insert, Into, Limit, Lock, Max, Min, Mode, Not, Null, Offset, Or, Order, Select, Set, Share, Sum, Update, Values, Where, Commit, End, Prepare, Recover, Replace, Rollback, Start, Xa, Open, Close, Comma, Dot, Star, Plus, Minus, Semicolon, Equal, NotEqual, Less, AtMost, Greater, AtLeast}
 use Rattle.sql_text.specs.declared.token.Before.{Before}
 use Rattle.sql_text.specs.declared.token.Dialect.{Dialect}
 use Rattle.sql_text.specs.declared.token.Dialect.TheVariants.{Statements, Links}
@@ -48,12 +48,32 @@ change_word bytes =
     else (if is_word (codes "MODE") bytes then Some Mode
     else None))))))
 
+-- those of ORDER BY and LIMIT
+abbrev pub order_word : List ℕ → Option Fixed
+order_word bytes =
+    if is_word (codes "ORDER") bytes then Some Order
+    else (if is_word (codes "BY") bytes then Some By
+    else (if is_word (codes "ASC") bytes then Some Asc
+    else (if is_word (codes "DESC") bytes then Some Desc
+    else (if is_word (codes "LIMIT") bytes then Some Limit
+    else (if is_word (codes "OFFSET") bytes then Some Offset
+    else None)))))
+
+-- those of aggregates
+abbrev pub aggregate_word : List ℕ → Option Fixed
+aggregate_word bytes =
+    if is_word (codes "COUNT") bytes then Some Count
+    else (if is_word (codes "SUM") bytes then Some Sum
+    else (if is_word (codes "MIN") bytes then Some Min
+    else (if is_word (codes "MAX") bytes then Some Max
+    else None)))
+
 abbrev pub first_word : Option Fixed → Option Fixed → Option Fixed
 first_word None other = other
 first_word (Some f) other = Some f
 
 abbrev pub keyword_of : List ℕ → Option Fixed
-keyword_of bytes = first_word (basic_word bytes) (change_word bytes)
+keyword_of bytes = first_word (basic_word bytes) (first_word (change_word bytes) (first_word (order_word bytes) (aggregate_word bytes)))
 
 -- a keyword, or a name of at most 64 bytes
 abbrev pub word_token : Option Fixed → List ℕ → Token
@@ -279,9 +299,9 @@ tokens_of text = map (λ (p : Placed). p.0) (placed_tokens text)
 
 -- LINK TEXT
 
--- the keywords of what is asked of a branch
-abbrev pub branch_word : List ℕ → Option Fixed
-branch_word bytes =
+-- the keywords of link text alone
+abbrev pub link_word : List ℕ → Option Fixed
+link_word bytes =
     if is_word (codes "XA") bytes then Some Xa
     else (if is_word (codes "START") bytes then Some Start
     else (if is_word (codes "END") bytes then Some End
@@ -289,29 +309,8 @@ branch_word bytes =
     else (if is_word (codes "COMMIT") bytes then Some Commit
     else (if is_word (codes "ROLLBACK") bytes then Some Rollback
     else (if is_word (codes "RECOVER") bytes then Some Recover
-    else None))))))
-
--- those of the end of a scan
-abbrev pub scan_word : List ℕ → Option Fixed
-scan_word bytes =
-    if is_word (codes "ORDER") bytes then Some Order
-    else (if is_word (codes "BY") bytes then Some By
-    else (if is_word (codes "LIMIT") bytes then Some Limit
-    else None))
-
--- those of what is written, and of aggregates
-abbrev pub other_word : List ℕ → Option Fixed
-other_word bytes =
-    if is_word (codes "REPLACE") bytes then Some Replace
-    else (if is_word (codes "COUNT") bytes then Some Count
-    else (if is_word (codes "SUM") bytes then Some Sum
-    else (if is_word (codes "MIN") bytes then Some Min
-    else (if is_word (codes "MAX") bytes then Some Max
-    else None))))
-
--- the keywords of link text alone
-abbrev pub link_word : List ℕ → Option Fixed
-link_word bytes = first_word (branch_word bytes) (first_word (scan_word bytes) (other_word bytes))
+    else (if is_word (codes "REPLACE") bytes then Some Replace
+    else None)))))))
 
 abbrev pub worded : Option Fixed → List ℕ → Token
 worded None n = tokens.Bare n

@@ -83,6 +83,9 @@ fn number(fixed: Fixed) -> u8
         Fixed::Set => 46,
         Fixed::Plus => 47,
         Fixed::Minus => 48,
+        Fixed::Asc => 49,
+        Fixed::Desc => 50,
+        Fixed::Offset => 51,
     }
 }
 

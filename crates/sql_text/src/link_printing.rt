@@ -1,15 +1,17 @@
 //! The canonical text of a request.
-ghost use Rattle.std.specs.Prelude.{◌≡◌, ◌++◌, [], ◌∷◌, OnOk, IfOk, map, drop, codes, pos};
+ghost use Rattle.std.specs.Prelude.{◌≡◌, ◌++◌, [], ◌∷◌, OnOk, IfOk, map, drop, codes};
 ghost use Rattle.std.specs.List.{flat_map};
 ghost use Rattle.std.specs.Fmt.{signed_decimal};
 ghost use Rattle.sql_text.specs.declared.link.LinkRequest.TheVariants as requests;
-ghost use Rattle.sql_text.specs.Printing.{joined_text, name_text, column_text, lock_text};
-ghost use Rattle.sql_text.specs.LinkPrinting.{xid_text, value_text, row_text, call_text, scan_items_text, order_text, limit_text, link_printed};
+ghost use Rattle.sql_text.specs.Printing.{joined_text, name_text, call_text, lock_text};
+ghost use Rattle.sql_text.specs.LinkPrinting.{xid_text, value_text, row_text, scan_items_text, order_text, limit_text, link_printed};
 
 use crate::link::{AggregateCall, LinkRequest, Scan, ScanItems};
-use crate::printing::{push_column, push_lock, push_name, push_quoted, push_where};
+use crate::printing::aggregates::push_call;
+use crate::printing::orders::push_counted;
+use crate::printing::{push_lock, push_name, push_quoted, push_where};
 use list_types::{Bytes, Listed};
-use sql_values::{ColumnName, Name, Row, Value, Xid};
+use sql_values::{Name, Row, Value, Xid};
 use std::alloc::{AllocError, Global};
 
 /// Adds the name of a branch, with the format 1.
@@ -115,35 +117,6 @@ fn push_keys(alloc: Global, out: &mut Vec<u8>, keys: &[i64]) -> Result<(), Alloc
     push_further_keys(alloc, out, others)
 }
 
-/// Adds a column and the parenthesis behind it.
-fn push_enclosed(out: &mut Vec<u8>, column: &ColumnName) -> Result<(), AllocError>
-    ensures { OnOk result (out.new.items ≡ out.old.items ++ (column_text column.now ++ codes ")")) }
-{
-    push_column(out, column)?;
-    out.extend_from_slice(b")")
-}
-
-/// Adds a call of an aggregate function.
-fn push_call(out: &mut Vec<u8>, call: &AggregateCall) -> Result<(), AllocError>
-    ensures { OnOk result (out.new.items ≡ out.old.items ++ call_text call.now) }
-{
-    match call {
-        AggregateCall::Count => out.extend_from_slice(b"COUNT(*)"),
-        AggregateCall::Sum(column) => {
-            out.extend_from_slice(b"SUM(")?;
-            push_enclosed(out, column)
-        }
-        AggregateCall::Min(column) => {
-            out.extend_from_slice(b"MIN(")?;
-            push_enclosed(out, column)
-        }
-        AggregateCall::Max(column) => {
-            out.extend_from_slice(b"MAX(")?;
-            push_enclosed(out, column)
-        }
-    }
-}
-
 /// Adds further calls, each behind a comma and a blank.
 fn push_further_calls(out: &mut Vec<u8>, calls: &[AggregateCall]) -> Result<(), AllocError>
     ensures { OnOk result (out.new.items ≡ out.old.items ++ flat_map (λ y. codes ", " ++ y) (map call_text calls.now)) }
@@ -194,9 +167,7 @@ fn push_limit(alloc: Global, out: &mut Vec<u8>, limit: Option<u64>) -> Result<()
     let Some(count) = limit else {
         return Ok(());
     };
-    let digits = count.to_string(alloc)?;
-    out.extend_from_slice(b" LIMIT ")?;
-    out.extend_from_slice(digits.as_str().as_bytes())
+    push_counted(alloc, out, b" LIMIT ", count)
 }
 
 /// Adds words and a name behind them.

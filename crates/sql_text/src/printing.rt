@@ -3,9 +3,11 @@ ghost use Rattle.std.specs.Prelude.{◌≡◌, ◌++◌, [], ◌∷◌, OnOk, If
 ghost use Rattle.std.specs.List.{flat_map};
 ghost use Rattle.std.specs.Fmt.{signed_decimal};
 ghost use Rattle.sql_text.specs.declared.statement.Statement.TheVariants as statements;
-ghost use Rattle.sql_text.specs.Printing.{escaped, quoted, literal_text, name_text, joined_text, qualifier_text, column_text, operand_text, comparison_text, negation_text, literals_text, opening, closing, at_level, shown_cond, cond_text, alias_text, item_text, items_text, where_text, columns_text, tuple_text, lock_text, locked_text, assignment_text, printed};
+ghost use Rattle.sql_text.specs.Printing.{escaped, quoted, literal_text, name_text, joined_text, qualifier_text, column_text, operand_text, comparison_text, negation_text, literals_text, opening, closing, at_level, shown_cond, cond_text, alias_text, item_text, items_text, where_text, columns_text, tuple_text, order_text, limit_text, lock_text, locked_text, assignment_text, printed};
 
+use crate::printing::aggregates::push_aggregate_items;
 use crate::printing::expressions::push_expr;
+use crate::printing::orders::{push_limit, push_order};
 use crate::statement::{
     Assignment, Assignments, Delete, Insert, Item, Names, Select, SelectItems, Statement, Tab,
     Update,
@@ -14,7 +16,9 @@ use list_types::{Bytes, Listed};
 use sql_values::{ColumnName, Comparison, Cond, Literal, Literals, LockMode, Name, Operand};
 use std::alloc::{AllocError, Global};
 
+pub mod aggregates;
 mod expressions;
+pub mod orders;
 
 /// Adds one byte of a text, as it stands in a literal.
 fn push_escaped(out: &mut Vec<u8>, byte: u8) -> Result<(), AllocError>
@@ -276,7 +280,7 @@ fn push_parts(
 }
 
 /// Adds AS and a name, or nothing.
-fn push_alias(out: &mut Vec<u8>, alias: &Option<Name>) -> Result<(), AllocError>
+pub fn push_alias(out: &mut Vec<u8>, alias: &Option<Name>) -> Result<(), AllocError>
     ensures { OnOk result (out.new.items ≡ out.old.items ++ alias_text alias.now) }
 {
     let Some(alias) = alias else {
@@ -312,6 +316,7 @@ fn push_items(out: &mut Vec<u8>, items: &SelectItems) -> Result<(), AllocError>
     match items {
         SelectItems::All => out.extend_from_slice(b"*"),
         SelectItems::Columns(items) => push_item_list(out, items.as_slice()),
+        SelectItems::Aggregates(items) => push_aggregate_items(out, items.as_slice()),
     }
 }
 
@@ -451,12 +456,21 @@ fn push_locked(out: &mut Vec<u8>, lock: Option<LockMode>) -> Result<(), AllocErr
     }
 }
 
+/// Adds which rows a SELECT gives, in which order, and how they are locked.
+fn push_rows_asked(alloc: Global, out: &mut Vec<u8>, select: &Select) -> Result<(), AllocError>
+    ensures { OnOk result (out.new.items ≡ out.old.items ++ (order_text select.now.order ++ (limit_text select.now.limit ++ locked_text select.now.lock))) }
+{
+    push_order(out, select.order.as_slice())?;
+    push_limit(alloc, out, select.limit)?;
+    push_locked(out, select.lock)
+}
+
 /// Adds what stands behind the table of a SELECT.
 fn push_select_end(alloc: Global, out: &mut Vec<u8>, select: &Select) -> Result<(), AllocError>
-    ensures { OnOk result (out.new.items ≡ out.old.items ++ (where_text select.now.cond ++ locked_text select.now.lock)) }
+    ensures { OnOk result (out.new.items ≡ out.old.items ++ (where_text select.now.cond ++ (order_text select.now.order ++ (limit_text select.now.limit ++ locked_text select.now.lock)))) }
 {
     push_where(alloc, out, &select.cond)?;
-    push_locked(out, select.lock)
+    push_rows_asked(alloc, out, select)
 }
 
 /// Adds a SELECT.
@@ -542,8 +556,8 @@ fn push_delete(alloc: Global, out: &mut Vec<u8>, delete: &Delete) -> Result<(), 
 }
 
 /// The canonical text of a statement: keywords in capitals, one blank between words, names in backquotes, values with `,` between them and other lists with
-/// `, `, texts in `'`, one blank on each side of a sign or star and one behind a minus of a factor, and parentheses round a condition or an expression only
-/// where it would read otherwise without them.
+/// `, `, texts in `'`, one blank on each side of a sign or star and one behind a minus of a factor, no ASC, an offset behind OFFSET unless it is 0, and
+/// parentheses round a condition or an expression only where it would read otherwise without them.
 pub fn print(alloc: Global, statement: &Statement) -> Result<Bytes, AllocError>
     ensures { IfOk result (λ text. text ≡ printed statement.now) }
 {

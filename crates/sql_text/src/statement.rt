@@ -1,3 +1,4 @@
+use crate::link::AggregateCall;
 use list_types::Listed;
 use sql_values::{ColumnName, Cond, Expr, Literals, LockMode, Name};
 
@@ -28,23 +29,29 @@ pub struct Insert {
     pub rows: Tuples,
 }
 
-/// SELECT: items of the rows of a table for which a condition holds.
+/// SELECT: items of the rows of a table for which a condition holds, or aggregates over these rows.
 #[derive(Debug, Drop)]
 pub struct Select {
     pub items: SelectItems,
     pub tab: Tab,
     pub cond: Option<Cond>,
+    /// By what the rows are sorted, the first counting most. It is empty where the items are aggregates, or no ORDER BY stands there.
+    pub order: SortList,
+    /// Which of the rows it gives. It is missing where the items are aggregates.
+    pub limit: Option<Limit>,
     /// How it says that the rows are locked: FOR UPDATE is `Exclusive`, LOCK IN SHARE MODE is `Shared`.
     pub lock: Option<LockMode>,
 }
 
-/// What a SELECT asks of each row.
+/// What a SELECT asks of the rows.
 #[derive(Clone, Debug, PartialEq, Eq, Drop)]
 pub enum SelectItems {
-    /// All columns (`*`).
+    /// All columns of each row (`*`).
     All,
-    /// These columns.
+    /// These columns of each row.
     Columns(ItemList),
+    /// These aggregates over all of the rows.
+    Aggregates(AggregateItems),
 }
 
 /// A column that a SELECT asks for, and the name that the answer gives it.
@@ -56,6 +63,33 @@ pub struct Item {
 
 /// Items, in order.
 pub type ItemList = Listed<Item>;
+
+/// An aggregate that a SELECT asks for, and the name that the answer gives it.
+#[derive(Clone, Debug, PartialEq, Eq, Drop)]
+pub struct AggregateItem {
+    pub call: AggregateCall,
+    pub alias: Option<Name>,
+}
+
+/// Aggregates, in order.
+pub type AggregateItems = Listed<AggregateItem>;
+
+/// A column by which rows are sorted: rising, or falling where it says DESC.
+#[derive(Clone, Debug, PartialEq, Eq, Drop)]
+pub struct SortItem {
+    pub column: ColumnName,
+    pub rising: bool,
+}
+
+/// Columns by which rows are sorted, the first counting most.
+pub type SortList = Listed<SortItem>;
+
+/// LIMIT: at most `count` rows, without the first `offset`, which is 0 where no offset stands there.
+#[derive(Clone, Copy, Debug, PartialEq, Eq)]
+pub struct Limit {
+    pub count: u64,
+    pub offset: u64,
+}
 
 /// A table that a SELECT reads, and the name by which the statement knows it.
 #[derive(Clone, Debug, PartialEq, Eq, Drop)]

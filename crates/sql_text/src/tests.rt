@@ -98,7 +98,7 @@ fn statements_and_faults(rt: HostRuntime) -> Result<(), Fail> {
 #[test]
 fn words_and_signs(rt: HostRuntime) -> Result<(), Fail> {
     let cases: [(&[u8], u8, u64); 18] = [
-        (b"SELECT xa, order start FROM limit AS max", 0, 0),
+        (b"SELECT xa, commit start FROM recover AS replace", 0, 0),
         (b"SELECT lock FROM t", 1, 7),
         (b"SELECT a FROM t FOR UPDATE;", 0, 0),
         (b"SELECT a FROM t lock in share mode", 0, 0),
@@ -116,6 +116,42 @@ fn words_and_signs(rt: HostRuntime) -> Result<(), Fail> {
         (b"UPDATE t SET v = 1 2", 1, 19),
         (b"UPDATE t SET v = 1 +", 1, 20),
         (b"UPDATE t SET v = a = 1", 1, 19),
+    ];
+    for (text, kind, place) in cases {
+        assert_eq!(rt; outcome(&rt, text), (kind, place), "{text:?}");
+    }
+    Ok(())
+}
+
+#[test]
+fn sorts_limits_and_aggregates(rt: HostRuntime) -> Result<(), Fail> {
+    let cases: [(&[u8], u8, u64); 18] = [
+        (
+            b"select a from t order by a desc, t.b asc,c limit 10 offset 5 for update;",
+            0,
+            0,
+        ),
+        (b"SELECT * FROM t LIMIT 18446744073709551615", 0, 0),
+        (b"SELECT * FROM t LIMIT 18446744073709551616", 1, 22),
+        (b"SELECT * FROM t LIMIT 5, 18446744073709551616", 1, 25),
+        (b"SELECT * FROM t LIMIT -1", 1, 22),
+        (b"SELECT * FROM t LIMIT 1 OFFSET", 1, 30),
+        (b"SELECT * FROM t LIMIT 1, 2 OFFSET 3", 1, 27),
+        (b"SELECT * FROM t LIMIT 1 ORDER BY a", 1, 24),
+        (b"SELECT * FROM t ORDER a", 1, 22),
+        (b"SELECT * FROM t ORDER BY 1", 1, 25),
+        (b"SELECT * FROM t ORDER BY a,", 1, 27),
+        (b"SELECT order FROM t", 1, 7),
+        (b"SELECT a max FROM t", 1, 9),
+        (
+            b"select Count ( * ) as n,sum(t.v) s from t where a = 1",
+            0,
+            0,
+        ),
+        (b"SELECT COUNT(*), a FROM t", 1, 17),
+        (b"SELECT a, COUNT(*) FROM t", 1, 10),
+        (b"SELECT COUNT(a) FROM t", 1, 13),
+        (b"SELECT MIN(a) FROM t LIMIT 1", 1, 21),
     ];
     for (text, kind, place) in cases {
         assert_eq!(rt; outcome(&rt, text), (kind, place), "{text:?}");
@@ -157,6 +193,14 @@ fn long_texts(rt: HostRuntime) -> Result<(), Fail> {
     assert_eq!(rt;
         repeated(&rt, b"SELECT a", b",a", 900, b" FROM t")?,
         (1, 1806)
+    );
+    assert_eq!(rt;
+        repeated(&rt, b"SELECT COUNT(*)", b",COUNT(*)", 899, b" FROM t")?,
+        (0, 0)
+    );
+    assert_eq!(rt;
+        repeated(&rt, b"SELECT COUNT(*)", b",COUNT(*)", 900, b" FROM t")?,
+        (1, 8106)
     );
     assert_eq!(rt;
         repeated(&rt, b"INSERT t VALUES (1)", b",(1)", 100_000, b"")?,
@@ -202,6 +246,37 @@ fn canonical_texts(rt: HostRuntime) -> Result<(), Fail> {
             b"SELECT `a` FROM `t` WHERE (`a` > 1 OR 'x' = `b`) AND NOT `a` NOT IN (1,2) AND NOT NOT `t`.`b` NOT BETWEEN 1 AND 'y'",
         ),
         (b"SELECT a", b""),
+    ];
+    for (text, expected) in cases {
+        assert!(rt; prints_as(&rt, text, expected)?, "{text:?}");
+    }
+    Ok(())
+}
+
+#[test]
+fn canonical_orders(rt: HostRuntime) -> Result<(), Fail> {
+    let cases: [(&[u8], &[u8]); 6] = [
+        (
+            b"select a from t order by a,t.b desc , c ASC",
+            b"SELECT `a` FROM `t` ORDER BY `a`, `t`.`b` DESC, `c`",
+        ),
+        (
+            b"select * from t where a=1 limit 07 offset 0 for update",
+            b"SELECT * FROM `t` WHERE `a` = 1 LIMIT 7 FOR UPDATE",
+        ),
+        (
+            b"select * from t order by a limit 5,0",
+            b"SELECT * FROM `t` ORDER BY `a` LIMIT 0 OFFSET 5",
+        ),
+        (
+            b"select * from t limit 3 offset 4",
+            b"SELECT * FROM `t` LIMIT 3 OFFSET 4",
+        ),
+        (
+            b"select count(*) n,sum(v), Min( t.v ) as m,max(w) from spider.t t where a=1 for update",
+            b"SELECT COUNT(*) AS `n`, SUM(`v`), MIN(`t`.`v`) AS `m`, MAX(`w`) FROM `t` AS `t` WHERE `a` = 1 FOR UPDATE",
+        ),
+        (b"select count(*) from t order by a", b""),
     ];
     for (text, expected) in cases {
         assert!(rt; prints_as(&rt, text, expected)?, "{text:?}");

@@ -16,18 +16,16 @@ use Rattle.sql_values.specs.Columns.{may_mean, may_qualify, columns_meant}
 use Rattle.part_rules.specs.declared.rule.Rule.{Rule}
 use Rattle.sql_text.specs.declared.statement.Delete.{Delete}
 use Rattle.sql_text.specs.declared.statement.Select.{Select}
-use Rattle.sql_text.specs.declared.statement.SelectItems.{SelectItems}
-use Rattle.sql_text.specs.declared.statement.SelectItems.TheVariants as items
 use Rattle.sql_text.specs.declared.statement.Statement.{Statement}
 use Rattle.sql_text.specs.declared.statement.Statement.TheVariants as statement
 use Rattle.sql_text.specs.declared.statement.Update.{Update}
 use Rattle.stmt_plan.specs.declared.fault.StmtFault.{StmtFault}
 use Rattle.stmt_plan.specs.declared.fault.StmtFault.TheVariants.{NoColumn, Ambiguous, KeyChanged, TypeMismatch, NoMemory}
-use Rattle.stmt_plan.specs.Chosen.{items_fault, where_fault, chosen_fault, where_fits, update_fault}
+use Rattle.stmt_plan.specs.Chosen.{where_fault, chosen_fault, where_fits, update_fault}
 use Rattle.stmt_plan.specs.Faults.{fault_of_check}
 use Rattle.stmt_plan.specs.Plans.{IsTable}
 use Rattle.stmt_plan.specs.Refusals.{refusal, mismatch_in}
-use Rattle.stmt_plan.specs.Selects.{called, known_name, item_columns, where_columns, named_columns}
+use Rattle.stmt_plan.specs.Selects.{called, calls_fit, known_name, item_columns, order_columns, where_columns, named_columns}
 use Rattle.stmt_plan.specs.Settings.{assigned_columns, settings, sets_key, sets_fault, sets_fit}
 use Rattle.stmt_plan.proofs.Meant.{found_mapped}
 use Rattle.stmt_plan.proofs.Seeks.{first-append, first-nil}
@@ -95,30 +93,20 @@ without_where : (all items several : Option (List ℕ)) → all ≡ items → se
     option_or (option_map NoColumn all) (option_or (option_map Ambiguous several) (option_or {T = StmtFault} None None)) ≡ option_or (option_map NoColumn items) None
 without_where all items several same none = rw (same, none) refl
 
-pub refusal_by : (table : TableDef) (n : List ℕ) (items : SelectItems) (pushed : Option Cond) → IsTable table →
-    option_or (option_map NoColumn (first_column (is_unknown (called table n ∷ [])) (named_columns items pushed)))
-    (option_or (option_map Ambiguous (first_column (is_ambiguous (called table n ∷ [])) (named_columns items pushed))) (option_or (mismatch_in (called table n) pushed) None))
-    ≡ option_or (items_fault (called table n) items) (where_fault (called table n) pushed)
-refusal_by table n items None is =
-    without_where (first_column (is_unknown (called table n ∷ [])) (item_columns items ++ [])) (first_column (is_unknown (called table n ∷ [])) (item_columns items))
-    (first_column (is_ambiguous (called table n ∷ [])) (item_columns items ++ []))
-    (ap (first_column (is_unknown (called table n ∷ []))) (append-nil (item_columns items))) (none_ambiguous table n (item_columns items ++ []) is)
-refusal_by table n items (Some c) is =
-    with_where (first_column (is_unknown (called table n ∷ [])) (item_columns items ++ cond_columns c)) (first_column (is_unknown (called table n ∷ [])) (item_columns items))
-    (first_column (is_unknown (called table n ∷ [])) (cond_columns c)) (first_column (is_ambiguous (called table n ∷ [])) (item_columns items ++ cond_columns c))
-    (first_column (is_ambiguous (called table n ∷ [])) (cond_columns c)) (cond_fits (called table n ∷ []) c)
-    (first-append (is_unknown (called table n ∷ [])) (item_columns items) (cond_columns c)) (none_ambiguous table n (item_columns items ++ cond_columns c) is)
-    (none_ambiguous table n (cond_columns c) is)
-
-pub refusal_of_select : (table : TableDef) (rule : Rule) (select : Select) → IsTable table →
-    refusal table rule (statement.Select select) ≡ chosen_fault table select
-refusal_of_select table rule select is = refusal_by table (known_name select.tab) select.items select.cond is
+pub refusal_by : (table : TableDef) (n : List ℕ) (pushed : Option Cond) → IsTable table →
+    option_or (option_map NoColumn (first_column (is_unknown (called table n ∷ [])) (where_columns pushed)))
+    (option_or (option_map Ambiguous (first_column (is_ambiguous (called table n ∷ [])) (where_columns pushed))) (option_or (mismatch_in (called table n) pushed) None))
+    ≡ where_fault (called table n) pushed
+refusal_by table n None is =
+    without_where (first_column (is_unknown (called table n ∷ [])) []) None (first_column (is_ambiguous (called table n ∷ [])) []) (first-nil (is_unknown (called table n ∷ []))) (first-nil (is_ambiguous (called table n ∷ [])))
+refusal_by table n (Some c) is =
+    with_where (first_column (is_unknown (called table n ∷ [])) (cond_columns c)) None (first_column (is_unknown (called table n ∷ [])) (cond_columns c))
+    (first_column (is_ambiguous (called table n ∷ [])) (cond_columns c)) (first_column (is_ambiguous (called table n ∷ [])) (cond_columns c)) (cond_fits (called table n ∷ []) c)
+    refl (none_ambiguous table n (cond_columns c) is) (none_ambiguous table n (cond_columns c) is)
 
 pub refusal_of_delete : (table : TableDef) (rule : Rule) (delete : Delete) → IsTable table →
     refusal table rule (statement.Delete delete) ≡ where_fault table delete.cond
-refusal_of_delete table rule delete is =
-    refusal_by table table.name items.All delete.cond is
-    ∙ ap (λ (o : Option (List ℕ)). option_or (option_map NoColumn o) (where_fault table delete.cond)) (first-nil (is_unknown (table ∷ [])))
+refusal_of_delete table rule delete is = refusal_by table table.name delete.cond is
 
 -- UPDATE
 
@@ -156,10 +144,32 @@ refusal_of_update table rule update is =
     (first-append (is_unknown (table ∷ [])) (assigned_columns update.sets) (where_columns update.cond))
     (none_ambiguous table table.name (assigned_columns update.sets ++ where_columns update.cond) is) (mismatch_is table update.cond)
 
+-- SELECT
+
+select_in_order : (all items wheres orders several : Option (List ℕ)) (compared : Option StmtFault) (fit compare : Bool) → all ≡ option_or items (option_or wheres orders) → several ≡ None →
+    compared ≡ cond {A = Option StmtFault} compare None (Some TypeMismatch) →
+    option_or (option_map NoColumn all) (option_or (option_map Ambiguous several) (option_or (cond {A = Option StmtFault} fit compared (Some TypeMismatch)) None))
+    ≡ option_or (option_map NoColumn items) (option_or (option_map NoColumn wheres) (option_or (option_map NoColumn orders) (cond {A = Option StmtFault} (fit && compare) None (Some TypeMismatch))))
+select_in_order all items wheres orders several compared fit compare joined none types =
+    rw (joined, none, types, types_last fit compare)
+    (names_first items (option_or wheres orders) (cond {A = Option StmtFault} (fit && compare) None (Some TypeMismatch))
+    ∙ ap (option_or (option_map NoColumn items)) (names_first wheres orders (cond {A = Option StmtFault} (fit && compare) None (Some TypeMismatch))))
+
+pub refusal_of_select : (table : TableDef) (rule : Rule) (select : Select) → IsTable table →
+    refusal table rule (statement.Select select) ≡ chosen_fault table select
+refusal_of_select table rule select is =
+    let known = called table (known_name select.tab) in
+    let unknown = is_unknown (known ∷ []) in
+    select_in_order (first_column unknown (named_columns select)) (first_column unknown (item_columns select.items)) (first_column unknown (where_columns select.cond)) (first_column unknown (order_columns select.order))
+    (first_column (is_ambiguous (known ∷ [])) (named_columns select)) (mismatch_in known select.cond) (calls_fit known select.items) (where_fits known select.cond)
+    (first-append unknown (item_columns select.items) (where_columns select.cond ++ order_columns select.order)
+    ∙ ap (option_or (first_column unknown (item_columns select.items))) (first-append unknown (where_columns select.cond) (order_columns select.order)))
+    (none_ambiguous table (known_name select.tab) (named_columns select) is) (mismatch_is known select.cond)
+
 -- WHAT IS TOLD
 
 -- a fault that the code finds is told, where what it looks for is the refusal
-told_by : (refusals found : Option StmtFault) (fault : StmtFault) → refusals ≡ found →
+pub told_by : (refusals found : Option StmtFault) (fault : StmtFault) → refusals ≡ found →
     (fault ≡ NoMemory) ⊎ (found ≡ Some fault) → (fault ≡ NoMemory) ⊎ (refusals ≡ Some fault)
 told_by refusals found fault same (inl none) = inl none
 told_by refusals found fault same (inr is) = inr (same ∙ is)

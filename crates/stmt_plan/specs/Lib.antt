@@ -1,4 +1,5 @@
 pub mod Apart
+pub mod Choices
 pub mod Chosen
 pub mod Faults
 pub mod Finished

@@ -11,6 +11,7 @@ use Rattle.sql_values.specs.KeySets.{AreKeys}
 use Rattle.part_rules.specs.declared.rule.Rule.{Rule}
 use Rattle.part_rules.specs.Keeps.{keeps}
 use Rattle.part_rules.specs.Pruned.{IsPruned}
+use Rattle.sql_text.specs.declared.link.ScanItems.{ScanItems}
 use Rattle.sql_text.specs.declared.link.ScanItems.TheVariants as scan
 use Rattle.sql_text.specs.declared.statement.Statement.{Statement}
 use Rattle.sql_text.specs.declared.statement.Statement.TheVariants as statement
@@ -18,7 +19,7 @@ use Rattle.stmt_plan.specs.declared.planned.Plan.{Plan}
 use Rattle.stmt_plan.specs.declared.planned.Work.{Work}
 use Rattle.stmt_plan.specs.declared.planned.Work.TheVariants as work
 use Rattle.stmt_plan.specs.Inserts.{rows_of, row_key, AreRising, in_keys}
-use Rattle.stmt_plan.specs.Selects.{known_as, known_name, picks_of, unqualified}
+use Rattle.stmt_plan.specs.Selects.{known_as, items_by, limit_by, unqualified, work_by}
 use Rattle.stmt_plan.specs.Settings.{settings}
 
 -- a table's columns have different names, their places are numbers, and the key column is a BIGINT
@@ -35,8 +36,7 @@ mode_of _ = Exclusive
 -- what is done with the rows that are found
 abbrev pub work_of : TableDef → Statement → Work
 work_of table (statement.Insert insert) = work.Insert (rows_of table insert.columns insert.rows)
-work_of table (statement.Select select) =
-    work.Select (record { table = known_name select.tab; picks = picks_of (known_as table select.tab) select.items })
+work_of table (statement.Select select) = work_by (known_as table select.tab) select select.items
 work_of table (statement.Update update) = work.Update (settings table update.sets)
 work_of table (statement.Delete delete) = work.Delete
 
@@ -53,6 +53,16 @@ IsPushed table (statement.Select select) pushed = pushed ≡ option_map unqualif
 IsPushed table (statement.Update update) pushed = pushed ≡ option_map unqualified update.cond
 IsPushed table (statement.Delete delete) pushed = pushed ≡ option_map unqualified delete.cond
 
+-- what is asked of these rows
+abbrev pub items_of : Statement → ScanItems
+items_of (statement.Select select) = items_by select.items
+items_of _ = scan.All
+
+-- of how many of them at most
+abbrev pub limit_of : TableDef → Statement → Option ℕ
+limit_of table (statement.Select select) = limit_by (known_as table select.tab) select select.items
+limit_of table _ = None
+
 -- whether a row with this key may be asked for
 abbrev pub keeps_key : TableDef → Option Cond → ℤ → Bool
 keeps_key table pushed key = option_map_or (keeps table key) pushed true
@@ -61,8 +71,8 @@ pub record IsPlan (number : ℕ) (table : TableDef) (rule : Rule) (s : Statement
   pub table_is : plan.table ≡ number
   pub parts : IsPruned rule plan.keys plan.parts
   pub keys : AreKeys plan.keys (keeps_key table plan.cond)
-  pub all_columns : plan.pushed ≡ scan.All
+  pub items : plan.pushed ≡ items_of s
   pub cond : IsPushed table s plan.cond
-  pub no_limit : plan.limit ≡ None
+  pub limit_is : plan.limit ≡ limit_of table s
   pub mode : plan.mode ≡ mode_of s
   pub work_is : plan.work ≡ work_of table s

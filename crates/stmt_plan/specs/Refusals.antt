@@ -11,14 +11,14 @@ use Rattle.stmt_plan.specs.declared.fault.StmtFault.{StmtFault}
 use Rattle.stmt_plan.specs.declared.fault.StmtFault.TheVariants.{NoColumn, Ambiguous, KeyChanged, TypeMismatch}
 use Rattle.stmt_plan.specs.Faults.{first_of}
 use Rattle.stmt_plan.specs.Inserts.{targets, unknown_target, count_fault, rows_fault, rows_of, row_key, unplaced}
-use Rattle.stmt_plan.specs.Selects.{known_as, named_columns, where_columns}
+use Rattle.stmt_plan.specs.Selects.{calls_fit, known_as, named_columns, where_columns}
 use Rattle.stmt_plan.specs.Settings.{update_columns, settings, sets_key, sets_fault, sets_fit}
 
 -- the first column, in the order of the text, that the table doesn't have (MySQL's 1054). UPDATE and DELETE know the table by its own name
 abbrev pub no_column : TableDef → Statement → Option StmtFault
 no_column table (statement.Insert insert) = option_map NoColumn (unknown_target table.columns insert.columns)
 no_column table (statement.Select select) =
-    option_map NoColumn (first_column (is_unknown (known_as table select.tab ∷ [])) (named_columns select.items select.cond))
+    option_map NoColumn (first_column (is_unknown (known_as table select.tab ∷ [])) (named_columns select))
 no_column table (statement.Update update) = option_map NoColumn (first_column (is_unknown (table ∷ [])) (update_columns update))
 no_column table (statement.Delete delete) = option_map NoColumn (first_column (is_unknown (table ∷ [])) (where_columns delete.cond))
 
@@ -26,7 +26,7 @@ no_column table (statement.Delete delete) = option_map NoColumn (first_column (i
 abbrev pub ambiguous : TableDef → Statement → Option StmtFault
 ambiguous table (statement.Insert insert) = None
 ambiguous table (statement.Select select) =
-    option_map Ambiguous (first_column (is_ambiguous (known_as table select.tab ∷ [])) (named_columns select.items select.cond))
+    option_map Ambiguous (first_column (is_ambiguous (known_as table select.tab ∷ [])) (named_columns select))
 ambiguous table (statement.Update update) = option_map Ambiguous (first_column (is_ambiguous (table ∷ [])) (update_columns update))
 ambiguous table (statement.Delete delete) = option_map Ambiguous (first_column (is_ambiguous (table ∷ [])) (where_columns delete.cond))
 
@@ -56,10 +56,10 @@ abbrev pub mismatch_in : TableDef → Option Cond → Option StmtFault
 mismatch_in table None = None
 mismatch_in table (Some cond) = if cond_fits (table ∷ []) cond then None else Some TypeMismatch
 
--- an expression of another type than its column, a condition on values that can't be compared (14020)
+-- a sum of a column that is no BIGINT, an expression of another type than its column, a condition on values that can't be compared (14020)
 abbrev pub mismatch : TableDef → Statement → Option StmtFault
 mismatch table (statement.Insert insert) = None
-mismatch table (statement.Select select) = mismatch_in (known_as table select.tab) select.cond
+mismatch table (statement.Select select) = if calls_fit (known_as table select.tab) select.items then mismatch_in (known_as table select.tab) select.cond else Some TypeMismatch
 mismatch table (statement.Update update) = if sets_fit table (settings table update.sets) then mismatch_in table update.cond else Some TypeMismatch
 mismatch table (statement.Delete delete) = mismatch_in table delete.cond
 

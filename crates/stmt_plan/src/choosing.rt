@@ -5,15 +5,19 @@ ghost use Rattle.std.specs.List.{position};
 ghost use Rattle.std.specs.Option.{option_map};
 ghost use Rattle.sql_values.specs.Columns.{may_qualify, may_mean};
 ghost use Rattle.sql_values.specs.Checks.{first_column, is_unknown, cond_columns, cond_fits as do_fit};
-ghost use Rattle.stmt_plan.specs.Chosen.{items_fault, cond_fault, where_fault, chosen_fault, unknown_fault, where_fits as can_compare};
+ghost use Rattle.stmt_plan.specs.Choices.{IsChoice, asks_rows};
+ghost use Rattle.stmt_plan.specs.Chosen.{items_fault, cond_fault, where_fault, chosen_fault, rest_fault, unknown_fault, where_fits as can_compare};
 ghost use Rattle.stmt_plan.specs.Plans.{IsTable};
-ghost use Rattle.stmt_plan.specs.Selects.{called, known_as, known_name as name_known, pick_of, all_picks, picks_of, where_columns, unqualified as bare};
+ghost use Rattle.stmt_plan.specs.Selects.{called, known_name as name_known, most_of as most_meant, order_of as order_meant, pick_of, place_of as place_meant, all_picks, picks_of, skip_of as skip_meant, where_columns, unqualified as bare};
 
+use crate::aggregates::{all_fit, call_columns};
+use crate::arranging::{first_rows_do, orders, rows_needed};
 use crate::fault::is_mismatch;
-use crate::unqualified::unqualified;
-use crate::{Pick, PickList, Picks, StmtFault};
+use crate::unqualified::{bare_calls, unqualified};
+use crate::{CellColumns, Pick, PickList, Picks, Selected, StmtFault, Work};
+use front_rows::Order;
 use list_types::Listed;
-use sql_text::{Item, Select, SelectItems, Tab};
+use sql_text::{AggregateItem, Item, Limit, ScanItems, Select, SelectItems, Tab};
 use sql_values::{ColumnDef, ColumnName, Cond, Name, TableDef, TableDefs, check_cond};
 use std::alloc::{AllocError, Global};
 
@@ -27,7 +31,7 @@ fn is_qualified_by(qualifier: &Option<Name>, known: &Name) -> bool
 }
 
 /// The place of the column that the name means.
-fn place(columns: &[ColumnDef], known: &Name, name: &ColumnName) -> Option<usize>
+pub(crate) fn place(columns: &[ColumnDef], known: &Name, name: &ColumnName) -> Option<usize>
     ensures place { result ≡ position (λ c. may_mean name.now (known.now, c)) columns.now }
     ensures within { IfSome result (λ place. place < length columns.now) }
 {
@@ -47,18 +51,36 @@ fn answer_name(alloc: Global, item: &Item) -> Result<Name, AllocError>
     }
 }
 
+/// The place of the column that the name means, or that there is none.
+pub(crate) fn place_of(
+    alloc: Global,
+    table: &TableDef,
+    known: &Name,
+    name: &ColumnName,
+) -> Result<u32, StmtFault>
+    requires { IsTable table.now }
+    ensures place { IfOk result (λ place. place ≡ place_meant (called table.now known.now) name.now) }
+    ensures known { OnOk result (is_unknown (called table.now known.now ∷ []) name.now ≡ false) }
+    ensures err { IfErr result (λ fault. (fault ≡ StmtFault.NoMemory) ⊎ ((fault ≡ StmtFault.NoColumn name.now.column) × (is_unknown (called table.now known.now ∷ []) name.now ≡ true))) }
+{
+    match place(table.columns.as_slice(), known, name) {
+        Some(place) => Ok(place as u32),
+        None => Err(StmtFault::NoColumn(name.column.copy(alloc)?)),
+    }
+}
+
 fn pick(alloc: Global, table: &TableDef, known: &Name, item: &Item) -> Result<Pick, StmtFault>
     requires { IsTable table.now }
     ensures pick { IfOk result (λ pick. pick ≡ pick_of (called table.now known.now) item.now) }
     ensures known { OnOk result (is_unknown (called table.now known.now ∷ []) item.now.column ≡ false) }
     ensures err { IfErr result (λ fault. (fault ≡ StmtFault.NoMemory) ⊎ ((fault ≡ StmtFault.NoColumn item.now.column.column) × (is_unknown (called table.now known.now ∷ []) item.now.column ≡ true))) }
 {
-    match place(table.columns.as_slice(), known, &item.column) {
-        Some(place) => Ok(Pick {
-            column: place as u32,
+    match place_of(alloc, table, known, &item.column) {
+        Ok(column) => Ok(Pick {
+            column,
             name: answer_name(alloc, item)?,
         }),
-        None => Err(StmtFault::NoColumn(item.column.column.copy(alloc)?)),
+        Err(fault) => Err(fault),
     }
 }
 
@@ -100,27 +122,6 @@ fn all_columns(alloc: Global, columns: &[ColumnDef]) -> Result<PickList, AllocEr
     Ok(picks)
 }
 
-#[tactic(auto, using(crate::proofs::Seeks::seeks))]
-fn picked(
-    alloc: Global,
-    table: &TableDef,
-    known: &Name,
-    items: &SelectItems,
-) -> Result<PickList, StmtFault>
-    requires { IsTable table.now }
-    ensures picks { IfOk result (λ picks. picks ≡ picks_of (called table.now known.now) items.now) }
-    ensures known { OnOk result (items_fault (called table.now known.now) items.now ≡ None) }
-    ensures err { IfErr result (λ fault. (fault ≡ StmtFault.NoMemory) ⊎ (items_fault (called table.now known.now) items.now ≡ Some fault)) }
-{
-    match items {
-        SelectItems::All => match all_columns(alloc, table.columns.as_slice()) {
-            Ok(picks) => Ok(picks),
-            Err(_) => Err(StmtFault::NoMemory),
-        },
-        SelectItems::Columns(items) => picks(alloc, table, known, items.as_slice()),
-    }
-}
-
 /// A copy of the table, as the only one, under the name by which the statement knows it.
 fn only(alloc: Global, table: &TableDef, known: &Name) -> Result<TableDefs, StmtFault>
     ensures table { IfOk result (λ tables. tables ≡ called table.now known.now ∷ []) }
@@ -146,14 +147,14 @@ fn check_where(alloc: Global, table: &TableDef, known: &Name, cond: &Cond) -> Re
     }
 }
 
-/// Whether a condition is on values that can be compared; a column that the table, under its own name, doesn't have comes before.
-fn cond_fits(alloc: Global, table: &TableDef, cond: &Cond) -> Result<bool, StmtFault>
+/// Whether a condition is on values that can be compared; a column that the table, under the statement's name of it, doesn't have comes before.
+fn cond_fits(alloc: Global, table: &TableDef, known: &Name, cond: &Cond) -> Result<bool, StmtFault>
     requires { IsTable table.now }
-    ensures fits { IfOk result (λ fits. fits ≡ do_fit (table.now ∷ []) cond.now) }
-    ensures known { OnOk result (unknown_fault table.now (cond_columns cond.now) ≡ None) }
-    ensures err { IfErr result (λ fault. (fault ≡ StmtFault.NoMemory) ⊎ (unknown_fault table.now (cond_columns cond.now) ≡ Some fault)) }
+    ensures fits { IfOk result (λ fits. fits ≡ do_fit (called table.now known.now ∷ []) cond.now) }
+    ensures known { OnOk result (unknown_fault (called table.now known.now) (cond_columns cond.now) ≡ None) }
+    ensures err { IfErr result (λ fault. (fault ≡ StmtFault.NoMemory) ⊎ (unknown_fault (called table.now known.now) (cond_columns cond.now) ≡ Some fault)) }
 {
-    let tables = only(alloc, table, &table.name)?;
+    let tables = only(alloc, table, known)?;
     match check_cond(alloc, cond, &tables) {
         Ok(()) => Ok(true),
         Err(fault) => {
@@ -166,20 +167,22 @@ fn cond_fits(alloc: Global, table: &TableDef, cond: &Cond) -> Result<bool, StmtF
     }
 }
 
-/// Whether the condition, where there is one, is on values that can be compared; columns that the table, under its own name, doesn't have come before.
+/// Whether the condition, where there is one, is on values that can be compared; columns that the table, under the statement's name of it, doesn't have come
+/// before.
 #[tactic(auto, using(crate::proofs::Seeks::seeks))]
 pub(crate) fn where_fits(
     alloc: Global,
     table: &TableDef,
+    known: &Name,
     cond: &Option<Cond>,
 ) -> Result<bool, StmtFault>
     requires { IsTable table.now }
-    ensures fits { IfOk result (λ fits. fits ≡ can_compare table.now cond.now) }
-    ensures known { OnOk result (unknown_fault table.now (where_columns cond.now) ≡ None) }
-    ensures err { IfErr result (λ fault. (fault ≡ StmtFault.NoMemory) ⊎ (unknown_fault table.now (where_columns cond.now) ≡ Some fault)) }
+    ensures fits { IfOk result (λ fits. fits ≡ can_compare (called table.now known.now) cond.now) }
+    ensures known { OnOk result (unknown_fault (called table.now known.now) (where_columns cond.now) ≡ None) }
+    ensures err { IfErr result (λ fault. (fault ≡ StmtFault.NoMemory) ⊎ (unknown_fault (called table.now known.now) (where_columns cond.now) ≡ Some fault)) }
 {
     match cond {
-        Some(cond) => cond_fits(alloc, table, cond),
+        Some(cond) => cond_fits(alloc, table, known, cond),
         None => Ok(true),
     }
 }
@@ -223,26 +226,155 @@ fn known_name(alloc: Global, tab: &Tab) -> Result<Name, AllocError>
     }
 }
 
-/// What a SELECT asks of each row, and of which rows, or why it is refused.
-pub(crate) fn choose(
+/// What a SELECT asks of partitions, and what it does with what they give.
+#[derive(Drop)]
+pub(crate) struct Choice {
+    pub(crate) items: ScanItems,
+    pub(crate) cond: Option<Cond>,
+    pub(crate) limit: Option<u64>,
+    pub(crate) work: Work,
+}
+
+/// What is left of a SELECT once its names are looked up: its conditions on types, and its order.
+#[derive(Drop)]
+struct Rest {
+    cond: Option<Cond>,
+    order: Order,
+}
+
+/// The condition without qualifiers, and the order of the rows, or why they are refused; `fit` says whether the items go with their columns' types.
+fn check_rest(
     alloc: Global,
     table: &TableDef,
+    known: &Name,
     select: &Select,
-) -> Result<(Option<Cond>, Picks), StmtFault>
+    fit: bool,
+) -> Result<Rest, StmtFault>
     requires { IsTable table.now }
-    ensures cond { IfOk result (λ chosen. chosen.0 ≡ option_map bare select.now.cond) }
-    ensures picks { IfOk result (λ chosen. chosen.1 ≡ record { table = name_known select.now.tab; picks = picks_of (known_as table.now select.now.tab) select.now.items }) }
+    ensures cond { IfOk result (λ rest. rest.cond ≡ option_map bare select.now.cond) }
+    ensures order { IfOk result (λ rest. rest.order ≡ order_meant (called table.now known.now) select.now.order) }
+    ensures ok { OnOk result (rest_fault (called table.now known.now) select.now fit ≡ None) }
+    ensures err { IfErr result (λ fault. (fault ≡ StmtFault.NoMemory) ⊎ (rest_fault (called table.now known.now) select.now fit ≡ Some fault)) }
+{
+    let compare = where_fits(alloc, table, known, &select.cond)?;
+    let order = orders(alloc, table, known, select.order.as_slice())?;
+    if !(fit && compare) {
+        return Err(StmtFault::TypeMismatch);
+    }
+    let cond = bare_where(alloc, &select.cond)?;
+    Ok(Rest { cond, order })
+}
+
+fn skip_of(limit: Option<Limit>) -> u64
+    ensures { result ≡ skip_meant limit }
+{
+    match limit {
+        Some(limit) => limit.offset,
+        None => 0,
+    }
+}
+
+fn most_of(limit: Option<Limit>) -> Option<u64>
+    ensures { result ≡ most_meant limit }
+{
+    match limit {
+        Some(limit) => Some(limit.count),
+        None => None,
+    }
+}
+
+/// A SELECT of these columns, whose names are known.
+fn choose_rows(
+    alloc: Global,
+    table: &TableDef,
+    known: Name,
+    select: &Select,
+    picks: PickList,
+) -> Result<Choice, StmtFault>
+    requires table { IsTable table.now }
+    requires rows { asks_rows select.now.items ≡ true }
+    requires known { known ≡ name_known select.now.tab }
+    requires names { items_fault (called table.now known) select.now.items ≡ None }
+    requires picks { picks ≡ picks_of (called table.now known) select.now.items }
+    ensures choice { IfOk result (IsChoice table.now select.now) }
+    ensures ok { OnOk result (chosen_fault table.now select.now ≡ None) }
+    ensures err { IfErr result (λ fault. (fault ≡ StmtFault.NoMemory) ⊎ (chosen_fault table.now select.now ≡ Some fault)) }
+{
+    let Rest { cond, order } = match check_rest(alloc, table, &known, select, true) {
+        Ok(rest) => rest,
+        Err(fault) => return Err(fault),
+    };
+    let limit = if first_rows_do(table, &known, select) {
+        rows_needed(select.limit)
+    } else {
+        None
+    };
+    let work = Work::Select(Selected {
+        picks: Picks {
+            table: known,
+            picks,
+        },
+        order,
+        skip: skip_of(select.limit),
+        most: most_of(select.limit),
+    });
+    Ok(Choice {
+        items: ScanItems::All,
+        cond,
+        limit,
+        work,
+    })
+}
+
+/// A SELECT of these aggregates.
+fn choose_aggregates(
+    alloc: Global,
+    table: &TableDef,
+    known: Name,
+    select: &Select,
+    items: &[AggregateItem],
+) -> Result<Choice, StmtFault>
+    requires table { IsTable table.now }
+    requires items { select.now.items ≡ SelectItems.Aggregates items.now }
+    requires known { known ≡ name_known select.now.tab }
+    ensures choice { IfOk result (IsChoice table.now select.now) }
+    ensures ok { OnOk result (chosen_fault table.now select.now ≡ None) }
+    ensures err { IfErr result (λ fault. (fault ≡ StmtFault.NoMemory) ⊎ (chosen_fault table.now select.now ≡ Some fault)) }
+{
+    let columns: CellColumns = call_columns(alloc, table, &known, items)?;
+    let fit = all_fit(columns.as_slice());
+    let Rest { cond, .. } = match check_rest(alloc, table, &known, select, fit) {
+        Ok(rest) => rest,
+        Err(fault) => return Err(fault),
+    };
+    Ok(Choice {
+        items: ScanItems::Aggregates(bare_calls(alloc, items)?),
+        cond,
+        limit: None,
+        work: Work::Aggregate(columns),
+    })
+}
+
+/// What a SELECT asks of partitions, and what is done with what they give, or why it is refused.
+#[tactic(auto, using(crate::proofs::Seeks::seeks))]
+pub(crate) fn choose(alloc: Global, table: &TableDef, select: &Select) -> Result<Choice, StmtFault>
+    requires { IsTable table.now }
+    ensures choice { IfOk result (IsChoice table.now select.now) }
     ensures ok { OnOk result (chosen_fault table.now select.now ≡ None) }
     ensures err { IfErr result (λ fault. (fault ≡ StmtFault.NoMemory) ⊎ (chosen_fault table.now select.now ≡ Some fault)) }
 {
     let known = known_name(alloc, &select.tab)?;
-    let picks = picked(alloc, table, &known, &select.items)?;
-    let cond = asked(alloc, table, &known, &select.cond)?;
-    Ok((
-        cond,
-        Picks {
-            table: known,
-            picks,
+    match &select.items {
+        SelectItems::All => {
+            let picks = all_columns(alloc, table.columns.as_slice())?;
+            choose_rows(alloc, table, known, select, picks)
+        }
+        SelectItems::Columns(items) => match picks(alloc, table, &known, items.as_slice()) {
+            Ok(picks) => choose_rows(alloc, table, known, select, picks),
+            Err(fault) => Err(fault),
         },
-    ))
+        SelectItems::Aggregates(items) => {
+            choose_aggregates(alloc, table, known, select, items.as_slice())
+        }
+    }
 }

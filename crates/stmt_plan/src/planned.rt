@@ -1,6 +1,11 @@
-use list_types::Listed;
+ghost use Rattle.std.specs.Prelude.{◌≡◌};
+ghost use Rattle.std.specs.Option.{option_map};
+ghost use Rattle.stmt_plan.specs.Settings.{lone_literal as literal_alone};
+
+use front_rows::{Aggregate, Order};
+use list_types::{Listed, Text};
 use sql_text::ScanItems;
-use sql_values::{Cond, Expr, Intervals, LockMode, Name, PartNos, Rows, TableNo};
+use sql_values::{Cond, Expr, Intervals, Literal, LockMode, Name, PartNos, Rows, TableNo};
 
 /// What a statement needs of the partitions of its table.
 #[derive(Debug, Drop)]
@@ -26,12 +31,42 @@ pub struct Plan {
 pub enum Work {
     /// These rows are added, in the order of the statement. Each has a value for each column of the table, in the table's order.
     Insert(Rows),
-    /// These columns of the rows are the answer.
-    Select(Picks),
+    /// Columns of the rows are the answer.
+    Select(Selected),
+    /// These aggregates are the answer, as one row.
+    Aggregate(CellColumns),
     /// These columns of the rows are set, one after the other.
     Update(SetColumns),
     /// The rows go.
     Delete,
+}
+
+/// What a SELECT makes of rows: it sorts them, leaves out the first `skip` of them, and gives these columns of at most `most` of the others.
+#[derive(Debug, Drop)]
+pub struct Selected {
+    pub picks: Picks,
+    pub order: Order,
+    pub skip: u64,
+    pub most: Option<u64>,
+}
+
+/// An aggregate, and the name that the answer gives it.
+#[derive(Clone, Debug, PartialEq, Eq, Drop)]
+pub struct CellColumn {
+    pub aggregate: Aggregate,
+    pub name: Text,
+}
+
+/// Aggregates of an answer, in order.
+pub type CellColumns = Listed<CellColumn>;
+
+/// The columns of an answer.
+#[derive(Clone, Debug, PartialEq, Eq, Drop)]
+pub enum AnswerColumns {
+    /// Columns of rows.
+    Picks(Picks),
+    /// Aggregates over rows.
+    Cells(CellColumns),
 }
 
 /// A column that an UPDATE sets: its place in the table, and the expression that gives its value.
@@ -39,6 +74,21 @@ pub enum Work {
 pub struct SetColumn {
     pub column: u32,
     pub value: Expr,
+}
+
+impl SetColumn {
+    /// The literal that the column is set to, where it stands alone.
+    pub fn lone_literal(&self) -> Option<&Literal>
+        ensures { option_map (λ l. l.now) result ≡ literal_alone self.now.value }
+    {
+        match &self.value {
+            Expr::Literal(literal) => Some(literal),
+            Expr::Column(_) => None,
+            Expr::Negated(_) => None,
+            Expr::Sum(_) => None,
+            Expr::Product(_) => None,
+        }
+    }
 }
 
 /// Columns that are set, in order. A later one sees what the earlier ones set.

@@ -6,7 +6,7 @@ ghost use Rattle.part_rules.specs.Placing.{IsRule};
 ghost use Rattle.stmt_plan.specs.Chosen.{stored_fault};
 ghost use Rattle.stmt_plan.specs.Finished.{IsFinished};
 ghost use Rattle.stmt_plan.specs.Inserts.{rows_of, row_key, unplaced};
-ghost use Rattle.stmt_plan.specs.Plans.{IsTable, AsksForKeys, IsPlan, IsPushed, keeps_key, mode_of, work_of};
+ghost use Rattle.stmt_plan.specs.Plans.{IsTable, AsksForKeys, IsPlan, IsPushed, items_of, keeps_key, limit_of, mode_of, work_of};
 ghost use Rattle.stmt_plan.specs.Refusals.{refusal};
 
 use crate::choosing::{asked, choose};
@@ -82,33 +82,46 @@ fn planned(
     number: TableNo,
     table: &TableDef,
     rule: &Rule,
-    cond: Option<Cond>,
-    mode: LockMode,
-    work: Work,
+    demand: Demand,
 ) -> Result<Plan, AllocError>
     requires { IsRule rule.now }
-    ensures { IfOk result (λ plan. IsFinished number table.now rule.now cond mode work plan) }
+    ensures { IfOk result (λ plan. IsFinished number table.now rule.now demand.items demand.cond demand.limit demand.mode demand.work plan) }
 {
-    let keys = keys_asked(alloc, table, &cond)?;
+    let keys = keys_asked(alloc, table, &demand.cond)?;
     let parts = prune(alloc, rule, &keys)?;
     Ok(Plan {
         table: number,
         parts,
         keys,
-        pushed: ScanItems::All,
-        cond,
-        limit: None,
-        mode,
-        work,
+        pushed: demand.items,
+        cond: demand.cond,
+        limit: demand.limit,
+        mode: demand.mode,
+        work: demand.work,
     })
 }
 
-/// What a statement asks for: of which rows, how these are locked, and what is done with them.
+/// What a statement asks for: what of which rows, of how many at most, how these are locked, and what is done with them.
 #[derive(Drop)]
 struct Demand {
+    items: ScanItems,
     cond: Option<Cond>,
+    limit: Option<u64>,
     mode: LockMode,
     work: Work,
+}
+
+/// A statement that writes asks for all columns of the rows on which the condition holds.
+fn to_write(cond: Option<Cond>, work: Work) -> Demand
+    ensures { result ≡ record { items = ScanItems.All; cond = cond; limit = None; mode = LockMode.Exclusive; work = work } }
+{
+    Demand {
+        items: ScanItems::All,
+        cond,
+        limit: None,
+        mode: LockMode::Exclusive,
+        work,
+    }
 }
 
 /// How a SELECT locks the rows that it reads.
@@ -127,7 +140,9 @@ fn demanded(
 ) -> Result<Demand, StmtFault>
     requires rule { IsRule rule.now }
     requires table { IsTable table.now }
+    ensures items { IfOk result (λ demand. demand.items ≡ items_of statement.now) }
     ensures cond { IfOk result (λ demand. IsPushed table.now statement.now demand.cond) }
+    ensures limit { IfOk result (λ demand. demand.limit ≡ limit_of table.now statement.now) }
     ensures mode { IfOk result (λ demand. demand.mode ≡ mode_of statement.now) }
     ensures work { IfOk result (λ demand. demand.work ≡ work_of table.now statement.now) }
     ensures ok { OnOk result (refusal table.now rule.now statement.now ≡ None) }
@@ -136,35 +151,24 @@ fn demanded(
     match statement {
         Statement::Insert(statement) => {
             let (cond, rows) = insert(alloc, table, rule, statement)?;
-            let mode = LockMode::Exclusive;
-            Ok(Demand {
-                cond: Some(cond),
-                mode,
-                work: Work::Insert(rows),
-            })
+            Ok(to_write(Some(cond), Work::Insert(rows)))
         }
         Statement::Select(statement) => match choose(alloc, table, statement) {
-            Ok((cond, picks)) => Ok(Demand {
-                cond,
+            Ok(choice) => Ok(Demand {
+                items: choice.items,
+                cond: choice.cond,
+                limit: choice.limit,
                 mode: select_mode(statement),
-                work: Work::Select(picks),
+                work: choice.work,
             }),
             Err(fault) => Err(fault),
         },
         Statement::Update(statement) => match set(alloc, table, statement) {
-            Ok((cond, sets)) => Ok(Demand {
-                cond,
-                mode: LockMode::Exclusive,
-                work: Work::Update(sets),
-            }),
+            Ok((cond, sets)) => Ok(to_write(cond, Work::Update(sets))),
             Err(fault) => Err(fault),
         },
         Statement::Delete(statement) => match asked(alloc, table, &table.name, &statement.cond) {
-            Ok(cond) => Ok(Demand {
-                cond,
-                mode: LockMode::Exclusive,
-                work: Work::Delete,
-            }),
+            Ok(cond) => Ok(to_write(cond, Work::Delete)),
             Err(fault) => Err(fault),
         },
     }
@@ -174,8 +178,8 @@ fn demanded(
 ///
 /// The rules are, in this order: a column that the table doesn't have, one that may be one of several, an UPDATE of the key column, a row with another
 /// number of values than columns, then by row and by column in the order of the statement NULL, a value of another type, a number out of range, a text too
-/// long, then a row whose key no partition takes, then a condition on values that can't be compared, or an expression of another type than the column that it
-/// is for. Of what an UPDATE sets, the literals that stand alone are values, and only NULL and another type are told here: their range and length are told
+/// long, then a row whose key no partition takes, then a sum of a column that is no BIGINT, a condition on values that can't be compared, or an expression of
+/// another type than the column that it is for. Of what an UPDATE sets, the literals that stand alone are values, and only NULL and another type are told here: their range and length are told
 /// of a row as it runs. The table's own name isn't compared with the statement's: the caller has found it.
 ///
 /// The cost of an INSERT is that of sorting its keys, beside one look at each of its values; names are looked up once.
@@ -192,6 +196,6 @@ pub fn plan_on(
     ensures ok { OnOk result (refusal table.now rule.now statement.now ≡ None) }
     ensures err { IfErr result (λ fault. (fault ≡ StmtFault.NoMemory) ⊎ (refusal table.now rule.now statement.now ≡ Some fault)) }
 {
-    let Demand { cond, mode, work } = demanded(alloc, table, rule, statement)?;
-    Ok(planned(alloc, number, table, rule, cond, mode, work)?)
+    let demand = demanded(alloc, table, rule, statement)?;
+    Ok(planned(alloc, number, table, rule, demand)?)
 }

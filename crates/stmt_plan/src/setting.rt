@@ -10,7 +10,7 @@ ghost use Rattle.stmt_plan.specs.Chosen.{unknown_fault, update_fault};
 ghost use Rattle.stmt_plan.specs.Inserts.{is_named};
 ghost use Rattle.stmt_plan.specs.Plans.{IsTable};
 ghost use Rattle.stmt_plan.specs.Selects.{unqualified as bare};
-ghost use Rattle.stmt_plan.specs.Settings.{name_set, assigned_columns, setting as setting_of, settings as settings_of, sets_key, lone_literal as literal_alone, told_before_rows, literal_fault, set_fault, sets_fault, fits_column, sets_fit};
+ghost use Rattle.stmt_plan.specs.Settings.{name_set, assigned_columns, setting as setting_of, settings as settings_of, sets_key, told_before_rows, literal_fault, set_fault, sets_fault, fits_column, sets_fit};
 
 use crate::choosing::{bare_where, where_fits};
 use crate::fault::is_mismatch;
@@ -130,18 +130,6 @@ fn is_key_set(table: &TableDef, sets: &[SetColumn]) -> bool
     sets.iter().any(|set| set.column == table.key)
 }
 
-fn lone_literal(value: &Expr) -> Option<&Literal>
-    ensures { option_map (λ l. l.now) result ≡ literal_alone value.now }
-{
-    match value {
-        Expr::Literal(literal) => Some(literal),
-        Expr::Column(_) => None,
-        Expr::Negated(_) => None,
-        Expr::Sum(_) => None,
-        Expr::Product(_) => None,
-    }
-}
-
 /// Refuses NULL and another type; range and length are told of a row.
 fn check_cause(alloc: Global, column: &ColumnDef, why: &StoreFault) -> Result<(), StmtFault>
     ensures ok { OnOk result (told_before_rows column.now.name why.now ≡ None) }
@@ -175,7 +163,7 @@ fn check_set(alloc: Global, table: &TableDef, set: &SetColumn) -> Result<(), Stm
     let Some(column) = table.columns.as_slice().get(set.column as usize) else {
         return Ok(());
     };
-    match lone_literal(&set.value) {
+    match set.lone_literal() {
         Some(literal) => check_literal(alloc, column, literal),
         None => Ok(()),
     }
@@ -208,7 +196,7 @@ pub(crate) fn set(
     ensures err { IfErr result (λ fault. (fault ≡ StmtFault.NoMemory) ⊎ (update_fault table.now update.now ≡ Some fault)) }
 {
     let (sets, fit) = settings(alloc, table, update.sets.as_slice())?;
-    let compare = where_fits(alloc, table, &update.cond)?;
+    let compare = where_fits(alloc, table, &table.name, &update.cond)?;
     if is_key_set(table, sets.as_slice()) {
         return Err(StmtFault::KeyChanged);
     }

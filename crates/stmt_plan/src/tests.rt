@@ -22,7 +22,7 @@ pub(crate) fn column(rt: &HostRuntime, text: &str, kind: Kind) -> Result<ColumnD
 }
 
 // t (k BIGINT, v VARCHAR(20)), by k
-fn table(rt: &HostRuntime) -> Result<TableDef, Fail> {
+pub(crate) fn table(rt: &HostRuntime) -> Result<TableDef, Fail> {
     let mut columns = Listed::new(rt.alloc());
     columns.push(column(rt, "k", Kind::BigInt)?)?;
     columns.push(column(rt, "v", Kind::VarChar(20))?)?;
@@ -113,6 +113,26 @@ fn is_refused(
         Ok(_) => Ok(told.0 == 0),
         Err(fault) => Ok(is_told(&fault, told, column)),
     }
+}
+
+#[test]
+fn selects_are_refused(rt: HostRuntime) -> Result<(), Fail> {
+    let cases: [(&[u8], u16, u64, &str); 7] = [
+        (b"SELECT SUM(v) FROM t", 14020, 0, ""),
+        (b"SELECT SUM(v), MIN(w) FROM t", 1054, 0, "w"),
+        (b"SELECT SUM(v) FROM t WHERE w = 1", 1054, 0, "w"),
+        (b"SELECT MAX(t.v) FROM t AS u", 1054, 0, "v"),
+        (b"SELECT k FROM t WHERE w = 1 ORDER BY x", 1054, 0, "w"),
+        (b"SELECT k FROM t WHERE k = 'a' ORDER BY x", 1054, 0, "x"),
+        (b"SELECT k FROM t ORDER BY v DESC, k LIMIT 1", 0, 0, ""),
+    ];
+    for (text, number, row, column) in cases {
+        assert!(rt;
+            is_refused(&rt, &Rule::Whole, text, (number, row), column)?,
+            "{text:?}"
+        );
+    }
+    Ok(())
 }
 
 #[test]
@@ -262,9 +282,11 @@ fn is_pick(pick: &Pick, column: u32, name: &str) -> bool {
 
 fn picks(plan: &Plan, table: &str) -> bool {
     match &plan.work {
-        Work::Select(chosen) => match chosen.picks.as_slice() {
+        Work::Select(chosen) => match chosen.picks.picks.as_slice() {
             [first, second] => {
-                chosen.table.as_str() == table && is_pick(first, 1, "x") && is_pick(second, 0, "k")
+                chosen.picks.table.as_str() == table
+                    && is_pick(first, 1, "x")
+                    && is_pick(second, 0, "k")
             }
             _ => false,
         },

@@ -1,8 +1,11 @@
 //! Conditions without the names of tables.
 
 ghost use Rattle.std.specs.Prelude.{◌≡◌, IfOk, map};
-ghost use Rattle.stmt_plan.specs.Selects.{bare_name as name_alone, bare_operand as operand_alone, unqualified as bare};
+ghost use Rattle.sql_text.specs.declared.statement.AggregateItem.{AggregateItem};
+ghost use Rattle.stmt_plan.specs.Selects.{bare_call as call_alone, bare_name as name_alone, bare_operand as operand_alone, unqualified as bare};
 
+use list_types::Listed;
+use sql_text::{AggregateCall, AggregateCalls, AggregateItem};
 use sql_values::{ColumnName, Cond, Literals, Operand};
 use sqlite_items::{Boxed, Items};
 use std::alloc::{AllocError, Global};
@@ -81,4 +84,29 @@ fn unqualified_parts(alloc: Global, parts: &[Cond]) -> Result<Items<Cond>, Alloc
         copies.push(unqualified(alloc, part)?)?;
     }
     Ok(copies)
+}
+
+fn bare_call(alloc: Global, call: &AggregateCall) -> Result<AggregateCall, AllocError>
+    ensures { IfOk result (λ copy. copy ≡ call_alone call.now) }
+{
+    match call {
+        AggregateCall::Count => Ok(AggregateCall::Count),
+        AggregateCall::Sum(name) => Ok(AggregateCall::Sum(bare_name(alloc, name)?)),
+        AggregateCall::Min(name) => Ok(AggregateCall::Min(bare_name(alloc, name)?)),
+        AggregateCall::Max(name) => Ok(AggregateCall::Max(bare_name(alloc, name)?)),
+    }
+}
+
+/// Copies of the calls in which each column stands without its table.
+pub(crate) fn bare_calls(
+    alloc: Global,
+    items: &[AggregateItem],
+) -> Result<AggregateCalls, AllocError>
+    ensures { IfOk result (λ calls. calls ≡ map (λ (item : AggregateItem). call_alone item.call) items.now) }
+{
+    let mut calls = Listed::new(alloc);
+    for item in items {
+        calls.push(bare_call(alloc, &item.call)?)?;
+    }
+    Ok(calls)
 }

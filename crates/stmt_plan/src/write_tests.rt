@@ -78,6 +78,8 @@ fn where_of(rt: &HostRuntime, text: &[u8]) -> Result<Option<Cond>, Fail> {
                 items: _,
                 tab: _,
                 cond,
+                order: _,
+                limit: _,
                 lock: _,
             } = select;
             Ok(cond)

@@ -20,6 +20,7 @@ use Rattle.sql_values.specs.Conditions.{literal_of}
 use Rattle.sql_values.specs.Expressions.{layer_value, addend_value, expr_value, with_factor}
 use Rattle.part_rules.specs.declared.rule.Rule.TheVariants as rule
 use Rattle.sql_text.specs.declared.link.LinkRequest.TheVariants as request
+use Rattle.sql_text.specs.declared.link.ScanItems.TheVariants as scanned
 use Rattle.stmt_plan.specs.declared.fault.RowFault.TheVariants as fault
 use Rattle.stmt_plan.specs.declared.planned.SetColumn.{SetColumn}
 use Rattle.stmt_plan.specs.Settings.{lone_layer, lone_literal}
@@ -153,7 +154,7 @@ refused : updating_found links changing (row (pos 1) (pos 10) (pos 0) ∷ row (p
 refused = ap (λ r. updating_by links (map_ok (λ news. map (placed table (rule.Hash 2)) (changed (row (pos 1) (pos 10) (pos 0) ∷ row (pos 2) (pos 4611686018427387904) (pos 0) ∷ []) news)) r)) second_row_refused
 
 abbrev scan : TableScan
-scan = record { key = codes "k"; place = 0; kinds = BigInt ∷ BigInt ∷ BigInt ∷ []; cond = None; lock = Exclusive }
+scan = record { key = codes "k"; place = 0; kinds = BigInt ∷ BigInt ∷ BigInt ∷ []; items = scanned.All; cond = None; limit = None; lock = Exclusive }
 
 deleted : deleting_found links scan (rule.Hash 2) (row (pos 1) (pos 0) (pos 0) ∷ row (pos 2) (pos 0) (pos 0) ∷ row (pos 4) (pos 0) (pos 0) ∷ [])
     ≡ writing.Writes (outcome.Done 3) (del 0 (pos 2 ∷ pos 4 ∷ []) ∷ del 1 (pos 2 ∷ pos 4 ∷ []) ∷ del 1 (pos 1 ∷ []) ∷ del 0 (pos 1 ∷ []) ∷ [])

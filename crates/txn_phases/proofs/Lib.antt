@@ -4,7 +4,6 @@ pub mod Marks
 pub mod Merged
 pub mod Places
 pub mod Puts
-pub mod Sorted
 pub mod Taken
 pub mod Told
 pub mod Weighed

@@ -1,6 +1,6 @@
 -- What a statement does with the rows that its scans found.
-use Rattle.std.specs.Prelude.{ℕ, ◌==◌, ℤ, pos, Bool, true, ◌||◌, List, [], ◌∷◌, Option, Some, None, Result, map, length, sum_by, nat_lt, slice_get, unwrap_or, if◌then◌else◌}
-use Rattle.std.specs.List.{filter, flat_map, list_any}
+use Rattle.std.specs.Prelude.{ℕ, ◌==◌, ℤ, pos, Bool, ◌||◌, List, [], ◌∷◌, Option, Some, None, Result, map, length, sum_by, nat_lt, slice_get, unwrap_or, if◌then◌else◌}
+use Rattle.std.specs.List.{filter, list_any}
 use Rattle.std.specs.Option.{option_map_or}
 use Rattle.std.specs.BTreeMap.{insert_entry}
 use Rattle.std.specs.Ordering.{int_cmp, int_eq}
@@ -12,16 +12,19 @@ use Rattle.part_rules.specs.declared.rule.Rule.{Rule}
 use Rattle.part_rules.specs.Placing.{part}
 use Rattle.stmt_plan.specs.declared.fault.RowFault.{RowFault}
 use Rattle.stmt_plan.specs.Inserts.{row_key}
+use Rattle.sql_text.specs.declared.link.LinkAnswer.{LinkAnswer}
+use Rattle.front_rows.specs.declared.aggregate.Aggregate.{Aggregate}
 use Rattle.front_rows.specs.declared.order.Sort.{Sort}
-use Rattle.front_rows.specs.Comparing.{before}
-use Rattle.front_rows.specs.Merging.{is_too_large}
+use Rattle.front_rows.specs.Aggregates.{can_merge, merged_cells}
+use Rattle.front_rows.specs.Cells.{Cell}
+use Rattle.front_rows.specs.Gathering.{all_rows}
+use Rattle.front_rows.specs.Merging.{is_too_large, key_order, merged_rows}
 use Rattle.plain_tables.specs.Inserts.{first_taken}
 use Rattle.plain_tables.specs.Updates.{changed, map_ok, set_rows}
 use Rattle.txn_phases.specs.declared.changing.Changing.{Changing}
 use Rattle.txn_phases.specs.declared.deed.PlacedRow.{PlacedRow}
 use Rattle.txn_phases.specs.declared.phase.Target.{Target}
 use Rattle.txn_phases.specs.declared.partitions.PlacedKey.{PlacedKey}
-use Rattle.txn_phases.specs.Sorting.{sorted_by}
 
 abbrev pub Row : Type 0
 Row = List Value
@@ -30,20 +33,23 @@ Row = List Value
 abbrev pub key_at : ℕ → Row → ℤ
 key_at place row = option_map_or number_of (slice_get row place) (pos 0)
 
-abbrev pub all_rows : List (List Row) → List Row
-all_rows parts = flat_map (λ rows. rows) parts
+-- WHAT WAS FOUND
 
--- the order of the key in this column, rising
-abbrev pub key_order : ℕ → List Sort
-key_order place = record { column = place; rising = true } ∷ []
+-- the rows, where they are no more than an answer may have
+abbrev pub within : List Row → Option (List Row)
+within rows = if is_too_large rows then None else Some rows
 
--- the rows of all parts, in the order of their keys
-abbrev pub merged : ℕ → List (List Row) → List Row
-merged place parts = sorted_by (before (key_order place)) (all_rows parts)
+-- those that the answers have, in this order and cut so
+abbrev pub merged_within : List Sort → ℕ → Option ℕ → List LinkAnswer → Option (List Row)
+merged_within order skip most parts = within (merged_rows order skip most parts)
 
--- the same, where they are no more than an answer may have
-abbrev pub merged_within : ℕ → List (List Row) → Option (List Row)
-merged_within place parts = if is_too_large (merged place parts) then None else Some (merged place parts)
+-- all of them, in the order of their keys
+abbrev pub found_within : ℕ → List LinkAnswer → Option (List Row)
+found_within place parts = merged_within (key_order place) 0 None parts
+
+-- the aggregates over all rows, where each sum stays within 128 bits
+abbrev pub cells_within : List Aggregate → List LinkAnswer → Option (List Cell)
+cells_within aggregates parts = if can_merge aggregates parts then Some (merged_cells aggregates parts) else None
 
 -- WHERE ROWS LIE
 
@@ -65,11 +71,11 @@ placed_keys rule place rows = map (λ row. placed_key rule (key_at place row)) r
 -- WHAT AN INSERT ADDS
 
 -- a row with the key was found
-abbrev pub is_found : ℕ → List (List Row) → ℤ → Bool
+abbrev pub is_found : ℕ → List LinkAnswer → ℤ → Bool
 is_found place found key = list_any (λ row. int_eq (key_at place row) key) (all_rows found)
 
 -- the first new key that a found row has, or an earlier new row
-abbrev pub taken_key : ℕ → List (List Row) → List PlacedRow → Option ℤ
+abbrev pub taken_key : ℕ → List LinkAnswer → List PlacedRow → Option ℤ
 taken_key place found news = first_taken (is_found place found) (map (λ (new : PlacedRow). new.key) news)
 
 -- the new rows of a partition, as they come

@@ -1,5 +1,4 @@
 pub mod Changes
 pub mod Deeds
 pub mod Phases
-pub mod Sorting
 pub mod Weights

@@ -1,7 +1,7 @@
 -- The phases of a statement's transaction: what an answer makes of it.
 use Rattle.std.specs.Prelude.{ℕ, ℤ, zero, suc, ◌+◌, Bool, true, false, ◌&&◌, List, [], ◌∷◌, ◌++◌, Option, Some, None, Result, Ok, Err, map, length, nat_lt, get_or, slice_get, if◌then◌else◌}
 use Rattle.std.specs.List.{filter, flat_map, list_all}
-use Rattle.std.specs.Option.{option_or, option_map_or}
+use Rattle.std.specs.Option.{option_or, option_map, option_map_or}
 use Rattle.std.specs.Cmp.Lexicographic.{pointwise}
 use Rattle.sql_values.specs.declared.table.Kind.{Kind}
 use Rattle.sql_values.specs.declared.value.Value.{Value}
@@ -12,7 +12,11 @@ use Rattle.sql_text.specs.declared.link.LinkAnswer.{LinkAnswer}
 use Rattle.sql_text.specs.declared.link.LinkAnswer.TheVariants as answer
 use Rattle.sql_text.specs.declared.link.LinkRequest.{LinkRequest}
 use Rattle.sql_text.specs.declared.link.LinkRequest.TheVariants as request
+use Rattle.sql_text.specs.declared.link.ScanItems.{ScanItems}
 use Rattle.sql_text.specs.declared.link.ScanItems.TheVariants as items
+use Rattle.front_rows.specs.declared.aggregate.Aggregate.{Aggregate}
+use Rattle.front_rows.specs.Aggregates.{is_part}
+use Rattle.front_rows.specs.Cells.{Cell}
 use Rattle.stmt_plan.specs.declared.fault.RowFault.{RowFault}
 use Rattle.txn_phases.specs.declared.changing.Changing.{Changing}
 use Rattle.txn_phases.specs.declared.deed.Deed.{Deed}
@@ -40,7 +44,7 @@ use Rattle.txn_phases.specs.declared.requests.Word.{Word}
 use Rattle.txn_phases.specs.declared.requests.Word.TheVariants as word
 use Rattle.txn_phases.specs.declared.writing.Writing.{Writing}
 use Rattle.txn_phases.specs.declared.writing.Writing.TheVariants as writing
-use Rattle.txn_phases.specs.Deeds.{merged_within, taken_key, news_in, writes_too_much, placed_keys, changes_of, keys_in, deletes_too_much}
+use Rattle.txn_phases.specs.Deeds.{merged_within, found_within, cells_within, taken_key, news_in, writes_too_much, placed_keys, changes_of, keys_in, deletes_too_much}
 
 -- a statement that was not begun yet
 abbrev pub new_job : List Branch → List Target → TableScan → Deed → Job
@@ -77,13 +81,24 @@ abbrev pub is_starting : Phase → Bool
 is_starting phase.Starting = true
 is_starting _ = false
 
+-- aggregates, or refused
+abbrev pub is_cells : List Aggregate → LinkAnswer → Bool
+is_cells aggregates (answer.Refused number message) = true
+is_cells aggregates (answer.Cells rows) = is_part aggregates (answer.Cells rows)
+is_cells aggregates _ = false
+
+-- what a scan is answered, by what is done with it
+abbrev pub fits_scan : Deed → List Kind → LinkAnswer → Bool
+fits_scan (deed.Aggregate aggregates) kinds a = is_cells aggregates a
+fits_scan _ kinds a = is_rows kinds a
+
 -- the answer has the form of the one that is read next
-abbrev pub has_form : Phase → List Kind → LinkAnswer → Bool
-has_form p kinds a = if is_scanning p then is_rows kinds a else is_done a
+abbrev pub has_form : Phase → Deed → List Kind → LinkAnswer → Bool
+has_form p d kinds a = if is_scanning p then fits_scan d kinds a else is_done a
 
 -- an answer is due, and this one has its form
 abbrev pub awaits : Job → LinkAnswer → Bool
-awaits job a = nat_lt job.heard (length job.asked) && has_form job.phase job.scan.kinds a
+awaits job a = nat_lt job.heard (length job.asked) && has_form job.phase job.deed job.scan.kinds a
 
 -- the server whose answer is read next, where one is due
 abbrev pub awaited : Job → Option ℕ
@@ -106,9 +121,15 @@ told word.Rollback b = request.Rollback b.xid
 abbrev pub to_branches : Word → List Branch → List Ask
 to_branches w branches = to_each (λ (b : Branch). b.server) (told w) branches
 
--- the rows of a link for which the condition holds, in key order
+-- rows come in the order of the key
+abbrev pub order_of : ScanItems → List ℕ → Option (List ℕ)
+order_of items.All key = Some key
+order_of (items.Aggregates calls) key = None
+
+-- what is asked of the rows of a link for which the condition holds
 abbrev pub scan_of : TableScan → Target → LinkRequest
-scan_of scan t = request.Scan (record { table = t.remote; items = items.All; cond = scan.cond; order = Some scan.key; limit = None; lock = scan.lock })
+scan_of scan t =
+    request.Scan (record { table = t.remote; items = scan.items; cond = scan.cond; order = order_of scan.items scan.key; limit = scan.limit; lock = scan.lock })
 
 abbrev pub scans_of : TableScan → List Target → List Ask
 scans_of scan targets = to_each (λ (t : Target). t.server) (scan_of scan) targets
@@ -168,10 +189,10 @@ abbrev pub writes_by : Job → Outcome → List Ask → Job × Progress
 writes_by job o [] = ends job o
 writes_by job o (a ∷ asks) = asking job (phase.Putting o) (a ∷ asks)
 
--- the rows that count were found
-abbrev pub selects : Job → Option (List (List Value)) → Job × Progress
-selects job None = gives_up job outcome.AnswerLimit
-selects job (Some rows) = ends job (outcome.Found rows)
+-- what counts was found; None is too much for an answer
+abbrev pub tells : Job → Option Outcome → Job × Progress
+tells job None = gives_up job outcome.AnswerLimit
+tells job (Some o) = ends job o
 
 -- each link gets its partition's rows, unless they are too many
 abbrev pub putting : List Target → List PlacedRow → Writing
@@ -182,7 +203,7 @@ abbrev pub inserting_by : List Target → List PlacedRow → Option ℤ → Writ
 inserting_by targets news (Some key) = writing.Refused (outcome.Duplicate key)
 inserting_by targets news None = putting targets news
 
-abbrev pub inserting : List Target → ℕ → List (List (List Value)) → List PlacedRow → Writing
+abbrev pub inserting : List Target → ℕ → List LinkAnswer → List PlacedRow → Writing
 inserting targets place found news = inserting_by targets news (taken_key place found news)
 
 -- a row that can't be changed gives an UPDATE up; else the rows that change are put
@@ -215,10 +236,11 @@ writes job (writing.Refused o) = gives_up job o
 writes job (writing.Writes o asks) = writes_by job o asks
 
 abbrev pub concluded_by : Job → Deed → Job × Progress
-concluded_by job deed.Select = selects job (merged_within job.scan.place job.found)
+concluded_by job (deed.Select order skip most) = tells job (option_map outcome.Found (merged_within order skip most job.found))
+concluded_by job (deed.Aggregate aggregates) = tells job (option_map outcome.Cells (cells_within aggregates job.found))
 concluded_by job (deed.Insert news) = writes job (inserting job.targets job.scan.place job.found news)
-concluded_by job (deed.Update changing) = writes job (updating job.targets changing (merged_within job.scan.place job.found))
-concluded_by job (deed.Delete rule) = writes job (deleting job.targets job.scan rule (merged_within job.scan.place job.found))
+concluded_by job (deed.Update changing) = writes job (updating job.targets changing (found_within job.scan.place job.found))
+concluded_by job (deed.Delete rule) = writes job (deleting job.targets job.scan rule (found_within job.scan.place job.found))
 
 abbrev pub concluded : Job → Job × Progress
 concluded job = concluded_by job job.deed
@@ -267,7 +289,7 @@ abbrev pub marked_in : Bool → ℕ → LinkAnswer → List Branch → List Bran
 marked_in true place a branches = marked place (is_begun a) branches
 marked_in false place a branches = branches
 
--- the rows of the link at that place count
+-- what the link at that place answers counts
 abbrev pub counts_at : List Target → ℕ → Bool
 counts_at targets place = option_map_or (λ (t : Target). t.counts) (slice_get targets place) false
 
@@ -278,20 +300,21 @@ server_at asked place = get_or asked place 0
 abbrev pub with_branches : Job → List Branch → Job
 with_branches job branches = record { branches = branches; targets = job.targets; scan = job.scan; deed = job.deed; phase = job.phase; asked = job.asked; heard = job.heard; refused = job.refused; found = job.found }
 
-abbrev pub with_found : Job → List (List (List Value)) → Job
+abbrev pub with_found : Job → List LinkAnswer → Job
 with_found job more = record { branches = job.branches; targets = job.targets; scan = job.scan; deed = job.deed; phase = job.phase; asked = job.asked; heard = job.heard; refused = job.refused; found = job.found ++ more }
 
 -- a phase's first refusal is kept
 abbrev pub with_refusal : Job → Refusal → Job
 with_refusal job refusal = record { branches = job.branches; targets = job.targets; scan = job.scan; deed = job.deed; phase = job.phase; asked = job.asked; heard = job.heard; refused = option_or job.refused (Some refusal); found = job.found }
 
-abbrev pub rows_if : Bool → List (List Value) → List (List (List Value))
-rows_if true rows = rows ∷ []
-rows_if false rows = []
+abbrev pub found_if : Bool → LinkAnswer → List LinkAnswer
+found_if true a = a ∷ []
+found_if false a = []
 
--- what a server's answer says is kept: the first refusal, and rows that count
+-- what a server's answer says is kept: the first refusal, and rows or aggregates that count
 abbrev pub keeps : ℕ → Bool → LinkAnswer → Job → Job
-keeps server counts (answer.Rows rows) job = with_found job (rows_if counts rows)
+keeps server counts (answer.Rows rows) job = with_found job (found_if counts (answer.Rows rows))
+keeps server counts (answer.Cells rows) job = with_found job (found_if counts (answer.Cells rows))
 keeps server counts (answer.Refused number message) job = with_refusal job (record { server = server; number = number; message = message; scanning = is_scanning job.phase })
 keeps server counts _ job = job
 

@@ -1,17 +1,13 @@
 //! What an UPDATE makes of the rows that were found.
 ghost use Rattle.std.specs.Prelude.{◌≡◌, ◌⊎◌, ◌++◌, IfOk, IfErr, Some, Ok, Err};
-ghost use Rattle.std.specs.Option.{option_map};
 ghost use Rattle.sql_values.specs.Conditions.{literal_of as literal_meant};
-ghost use Rattle.stmt_plan.specs.Settings.{lone_literal as literal_alone};
 ghost use Rattle.plain_tables.specs.Updates.{fault_in_row as fault_meant, set_to, held_in, with_value as value_put, set_one as one_set, set_all as all_set, is_same_row};
 ghost use Rattle.txn_phases.specs.Changes.{told, change_of};
 ghost use Rattle.txn_phases.specs.Deeds.{changes_of as changes_meant};
 
 use crate::{PlacedRows, Placing};
 use list_types::Listed;
-use sql_values::{
-    ColumnDef, Expr, Literal, Row, StoreFault, TableDef, Value, ValueFault, eval, store,
-};
+use sql_values::{ColumnDef, Literal, Row, StoreFault, TableDef, Value, ValueFault, eval, store};
 use std::alloc::{AllocError, Global};
 use stmt_plan::{RowFault, SetColumn, SetColumns};
 
@@ -41,16 +37,6 @@ impl From<AllocError> for ChangeFault {
 
     fn from(_error: AllocError) -> ChangeFault {
         ChangeFault::NoMemory
-    }
-}
-
-/// The literal that stands alone.
-fn lone_literal(value: &Expr) -> Option<&Literal>
-    ensures { option_map (λ l. l.now) result ≡ literal_alone value.now }
-{
-    match value {
-        Expr::Literal(literal) => Some(literal),
-        _ => None,
     }
 }
 
@@ -105,22 +91,22 @@ fn stored_in(
     }
 }
 
-/// What a column holds of an expression on the row of this number.
+/// What a column holds of what it is set to, on the row of this number.
 fn held_of(
     alloc: Global,
     def: &TableDef,
     column: &ColumnDef,
     number: u64,
-    value: &Expr,
+    set: &SetColumn,
     row: &Row,
 ) -> Result<Value, ChangeFault>
-    ensures value { IfOk result (λ held. held_in column.now number (set_to def.now row.now value.now) ≡ Ok held) }
-    ensures fault { IfErr result (λ fault. (fault ≡ ChangeFault.NoMemory) ⊎ (told (held_in column.now number (set_to def.now row.now value.now)) ≡ Err fault)) }
+    ensures value { IfOk result (λ held. held_in column.now number (set_to def.now row.now set.now.value) ≡ Ok held) }
+    ensures fault { IfErr result (λ fault. (fault ≡ ChangeFault.NoMemory) ⊎ (told (held_in column.now number (set_to def.now row.now set.now.value)) ≡ Err fault)) }
 {
-    if let Some(literal) = lone_literal(value) {
+    if let Some(literal) = set.lone_literal() {
         return stored_in(alloc, column, number, literal);
     }
-    match eval(alloc, value, def, row) {
+    match eval(alloc, &set.value, def, row) {
         Ok(value) => stored_in(alloc, column, number, &literal_of(value)),
         Err(ValueFault::OutOfRange) => Err(ChangeFault::Refused(RowFault::Arithmetic)),
         Err(ValueFault::NoMemory) => Err(ChangeFault::NoMemory),
@@ -156,7 +142,7 @@ fn set_one(
     let Some(column) = def.columns.as_slice().get(set.column as usize) else {
         return Ok(row);
     };
-    let value = held_of(alloc, def, column, number, &set.value, &row)?;
+    let value = held_of(alloc, def, column, number, set, &row)?;
     Ok(with_value(row, set.column, value))
 }
 

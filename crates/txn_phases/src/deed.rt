@@ -1,5 +1,6 @@
 ghost use Rattle.std.specs.Prelude.{◌≡◌, ◌+◌, ◌^◌, ◌-◌, ℤ, ◌||◌, not, List, [], map, min, IfOk, OnOk, sum_by, length};
 ghost use Rattle.std.specs.List.{flat_map, list_any};
+ghost use Rattle.front_rows.specs.Gathering.{answer_rows, all_rows};
 ghost use Rattle.txn_phases.specs.Deeds.{Row, key_at, taken_key as key_taken, news_at, put_by_key, is_found, news_in as news_meant};
 ghost use Rattle.std.specs.BTreeMap.{insert_entry};
 ghost use Rattle.std.specs.BTreeSet.{contains};
@@ -9,7 +10,9 @@ ghost use Rattle.txn_phases.specs.declared.deed.PlacedRow.{PlacedRow};
 
 use crate::partitions::key_of;
 use crate::{Changing, Placing};
+use front_rows::{Aggregates, CellRow, Order};
 use list_types::{Listed, Text};
+use sql_text::LinkAnswer;
 use sql_values::{PartNo, Row, Rows, ServerNo};
 use std::alloc::{AllocError, Global};
 use std::collections::{BTreeMap, BTreeSet};
@@ -29,8 +32,14 @@ pub type PlacedRows = Listed<PlacedRow>;
 /// What a statement does with the rows that its scans found.
 #[derive(Debug, Drop)]
 pub enum Deed {
-    /// They are the answer.
-    Select,
+    /// They are the answer, in this order, without the first `skip` and at most `most`.
+    Select {
+        order: Order,
+        skip: u64,
+        most: Option<u64>,
+    },
+    /// These aggregates over them are the answer.
+    Aggregate(Aggregates),
     /// These rows are added, unless a row with the key of one of them was found.
     Insert(PlacedRows),
     /// Columns of them are set.
@@ -54,15 +63,17 @@ pub struct Refusal {
 /// How a statement came out.
 #[derive(Debug, Drop)]
 pub enum Outcome {
-    /// These rows were found, in the order of their keys.
+    /// These rows were found, in the statement's order.
     Found(Rows),
+    /// The aggregates over the rows that were found.
+    Cells(CellRow),
     /// So many rows were added, or were changed, or went.
     Done(u64),
     /// A row with this key is there already, or two rows have it. Nothing was written.
     Duplicate(i64),
     /// This row can't be changed as the statement says. Nothing was written.
     RowRefused(RowFault),
-    /// More than 100,000 rows were found, or more than 64 MiB of them. Nothing was written.
+    /// More than 100,000 rows were found, or more than 64 MiB of them, or a sum is beyond 128 bits. Nothing was written.
     AnswerLimit,
     /// More than 10,000 rows would be written at a server, or more than 4 MiB of them. Nothing was written.
     WriteSetLimit,
@@ -119,13 +130,23 @@ fn add_keys(keys: &mut BTreeSet<i64>, rows: &[Row], place: u32) -> Result<(), Al
     Ok(())
 }
 
+/// The rows of an answer; another answer has none.
+fn rows_in(answer: &LinkAnswer) -> &[Row]
+    ensures { result.now ≡ answer_rows answer.now }
+{
+    match answer {
+        LinkAnswer::Rows(rows) => rows.as_slice(),
+        _ => &[],
+    }
+}
+
 /// The keys of the found rows.
-fn found_keys(alloc: Global, found: &[Rows], place: u32) -> Result<BTreeSet<i64>, AllocError>
+fn found_keys(alloc: Global, found: &[LinkAnswer], place: u32) -> Result<BTreeSet<i64>, AllocError>
     ensures { IfOk result (λ keys. (key : ℤ) → contains int_cmp keys key ≡ is_found place found.now key) }
 {
     let mut keys = BTreeSet::new(alloc);
-    for rows in found {
-        add_keys(&mut keys, rows.as_slice(), place)?;
+    for answer in found {
+        add_keys(&mut keys, rows_in(answer), place)?;
     }
     Ok(keys)
 }
@@ -141,7 +162,7 @@ fn add_key(keys: &mut BTreeSet<i64>, key: &i64) -> Result<bool, AllocError>
 /// The first new key that a found row has, or an earlier new row.
 pub(crate) fn taken_key(
     alloc: Global,
-    found: &[Rows],
+    found: &[LinkAnswer],
     place: u32,
     news: &[PlacedRow],
 ) -> Result<Option<i64>, AllocError>

@@ -3,8 +3,10 @@ ghost use Rattle.std.specs.Prelude.{◌≡◌};
 ghost use Rattle.std.specs.Cmp.Lexicographic.{pointwise};
 ghost use Rattle.std.specs.List.{list_all};
 ghost use Rattle.sql_values.specs.Laws.{is_of as of_kind};
-ghost use Rattle.txn_phases.specs.Phases.{is_short as short_value, is_shaped as shaped, is_done as done_form, is_rows as rows_form};
+ghost use Rattle.txn_phases.specs.Phases.{is_short as short_value, is_shaped as shaped, is_done as done_form, is_rows as rows_form, is_cells as cells_form, fits_scan as scan_form};
 
+use crate::Deed;
+use front_rows::{Aggregate, is_part};
 use sql_text::LinkAnswer;
 use sql_values::{Kind, Row, Value};
 
@@ -71,6 +73,29 @@ pub fn is_rows(kinds: &[Kind], answer: &LinkAnswer) -> bool
         LinkAnswer::Rows(rows) => are_shaped(kinds, rows.as_slice()),
         LinkAnswer::Refused { .. } => true,
         LinkAnswer::Done(_) | LinkAnswer::Cells(_) | LinkAnswer::Xids(_) => false,
+    }
+}
+
+/// Whether the answer is one row with a cell for each of these aggregates, or a refusal.
+pub fn is_cells(aggregates: &[Aggregate], answer: &LinkAnswer) -> bool
+    ensures { result ≡ cells_form aggregates.now answer.now }
+{
+    match answer {
+        LinkAnswer::Cells(_) => is_part(aggregates, answer),
+        LinkAnswer::Refused { .. } => true,
+        LinkAnswer::Done(_) | LinkAnswer::Rows(_) | LinkAnswer::Xids(_) => false,
+    }
+}
+
+/// Whether a scan may be answered so: with aggregates, where these are what is wanted, or else with rows of these kinds.
+pub(crate) fn fits_scan(deed: &Deed, kinds: &[Kind], answer: &LinkAnswer) -> bool
+    ensures { result ≡ scan_form deed.now kinds.now answer.now }
+{
+    match deed {
+        Deed::Aggregate(aggregates) => is_cells(aggregates.as_slice(), answer),
+        Deed::Select { .. } | Deed::Insert(_) | Deed::Update(_) | Deed::Delete(_) => {
+            is_rows(kinds, answer)
+        }
     }
 }
 

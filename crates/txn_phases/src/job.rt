@@ -1,14 +1,16 @@
 ghost use Rattle.std.specs.Prelude.{◌≡◌};
+ghost use Rattle.std.specs.Option.{option_map};
 ghost use Rattle.txn_phases.specs.Phases.{is_begun as begins_branch, stage_of};
 
-use crate::forms::{is_done, is_rows};
-use crate::merging::take_merged;
+use crate::forms::{fits_scan, is_done};
+use crate::merging::{merged_cells, take_found, take_merged};
 use crate::owed::{Owed, mark};
 use crate::requests::{Asks, Word, scans, servers_of, to_all, to_begun};
 use crate::writing::{Writing, plan_delete, plan_insert, plan_update};
 use crate::{Branches, Deed, Ending, Outcome, Phase, Progress, Refusal, Stage, Targets};
+use front_rows::{Answers, CellRow};
 use list_types::Listed;
-use sql_text::LinkAnswer;
+use sql_text::{LinkAnswer, ScanItems};
 use sql_values::{Cond, Kind, LockMode, Name, Rows, ServerNo, ServerNos};
 use std::alloc::{AllocError, Global};
 use std::mem;
@@ -24,8 +26,12 @@ pub struct TableScan {
     /// The key column's place.
     pub place: u32,
     pub kinds: Kinds,
+    /// What is asked of the rows.
+    pub items: ScanItems,
     /// Of which rows. Columns stand without their table.
     pub cond: Option<Cond>,
+    /// Of how many rows at most.
+    pub limit: Option<u64>,
     pub lock: LockMode,
 }
 
@@ -43,8 +49,8 @@ pub struct Job {
     pub(crate) heard: usize,
     /// The first refusal of this phase.
     pub(crate) refused: Option<Refusal>,
-    /// The rows that count, by partition.
-    pub(crate) found: Listed<Rows>,
+    /// The answers that count, by partition.
+    pub(crate) found: Answers,
 }
 
 impl Phase {
@@ -98,7 +104,7 @@ impl Phase {
 
 impl Job {
     ghost use Rattle.std.specs.Prelude.{◌≡◌, ◌+◌, ◌-◌, ◌<◌, [], true, length, max, nat_le, IfOk, OnErr, Some, None};
-    ghost use Rattle.txn_phases.specs.Phases.{new_job, awaited, awaits as may_come, counts_at, marked, with_branches, with_found, rows_if, with_refusal, keeps, noted, owed_of, owed_noted, entering, asking, finished, gives_up as gives_up_by_rule, ends as ends_by_rule, selects as selects_by_rule, writes as writes_by_rule, owed_at, concluded, decided, follows, leaves, goes_on as goes_on_by_rule, hears, begins, server_at};
+    ghost use Rattle.txn_phases.specs.Phases.{new_job, awaited, awaits as may_come, counts_at, marked, with_branches, with_found, found_if, with_refusal, keeps, noted, owed_of, owed_noted, entering, asking, finished, gives_up as gives_up_by_rule, ends as ends_by_rule, tells as tells_by_rule, writes as writes_by_rule, owed_at, concluded, decided, follows, leaves, goes_on as goes_on_by_rule, hears, begins, server_at};
     ghost use Rattle.txn_phases.specs.declared.phase.Stage.{Stage};
 
     /// A statement that is to scan these links, at these servers: each server of a link has its branch, none of which is begun. It takes no memory.
@@ -132,7 +138,7 @@ impl Job {
             return false;
         }
         if self.phase.is_scanning() {
-            return is_rows(self.scan.kinds.as_slice(), answer);
+            return fits_scan(&self.deed, self.scan.kinds.as_slice(), answer);
         }
         is_done(answer)
     }
@@ -158,7 +164,7 @@ impl Job {
         self.asked.len().saturating_sub(self.heard) <= 1
     }
 
-    /// Whether the rows of the link that answers next count.
+    /// Whether the answer of the link that answers next counts.
     fn is_counting(&self) -> bool
         ensures { result ≡ counts_at self.now.targets self.now.heard }
     {
@@ -191,14 +197,15 @@ impl Job {
         self.branches = mark(branches, self.heard, begun);
     }
 
-    /// Rows that count are kept, and the first refusal.
+    /// Rows and aggregates that count are kept, and the first refusal.
     fn keep(&mut self, server: ServerNo, counts: bool, answer: LinkAnswer) -> Result<(), AllocError>
         ensures kept { IfOk result (λ _. self.new ≡ keeps server counts answer self.old) }
         ensures owed { OnErr result (owed_of self.new ≡ owed_of self.old) }
     {
         let scanning = self.phase.is_scanning();
         match answer {
-            LinkAnswer::Rows(rows) => self.keep_rows(counts, rows),
+            LinkAnswer::Rows(rows) => self.keep_found(counts, LinkAnswer::Rows(rows)),
+            LinkAnswer::Cells(rows) => self.keep_found(counts, LinkAnswer::Cells(rows)),
             LinkAnswer::Refused { number, message } => {
                 self.keep_refusal(Refusal {
                     server,
@@ -209,17 +216,16 @@ impl Job {
                 Ok(())
             }
             LinkAnswer::Done(_count) => Ok(()),
-            LinkAnswer::Cells(_cells) => Ok(()),
             LinkAnswer::Xids(_xids) => Ok(()),
         }
     }
 
-    fn keep_rows(&mut self, counts: bool, rows: Rows) -> Result<(), AllocError>
-        ensures kept { IfOk result (λ _. self.new ≡ with_found self.old (rows_if counts rows)) }
+    fn keep_found(&mut self, counts: bool, answer: LinkAnswer) -> Result<(), AllocError>
+        ensures kept { IfOk result (λ _. self.new ≡ with_found self.old (found_if counts answer)) }
         ensures owed { OnErr result (owed_of self.new ≡ owed_of self.old) }
     {
         if counts {
-            self.found.push(rows)?;
+            self.found.push(answer)?;
         }
         Ok(())
     }
@@ -286,13 +292,13 @@ impl Job {
         self.ask(alloc, Phase::Ending(outcome), asks)
     }
 
-    /// The rows that were found are the answer; of None, too many, the statement is given up.
-    fn select(&mut self, alloc: Global, rows: Option<Rows>) -> Result<Progress, AllocError>
-        ensures selects { IfOk result (λ progress. (self.new, progress) ≡ selects_by_rule self.old rows) }
+    /// What was found is the answer; of None, too much, the statement is given up.
+    fn tell(&mut self, alloc: Global, outcome: Option<Outcome>) -> Result<Progress, AllocError>
+        ensures tells { IfOk result (λ progress. (self.new, progress) ≡ tells_by_rule self.old outcome) }
         ensures unchanged { OnErr result (self.new ≡ self.old) }
     {
-        match rows {
-            Some(rows) => self.end(alloc, Outcome::Found(rows)),
+        match outcome {
+            Some(outcome) => self.end(alloc, outcome),
             None => self.give_up(alloc, Outcome::AnswerLimit),
         }
     }
@@ -320,9 +326,13 @@ impl Job {
     {
         let place = self.scan.place;
         match &self.deed {
-            Deed::Select => {
-                let rows = take_merged(alloc, &mut self.found, place)?;
-                self.select(alloc, rows)
+            Deed::Select { order, skip, most } => {
+                let rows = take_merged(alloc, &mut self.found, order, *skip, *most)?;
+                self.tell(alloc, found_rows(rows))
+            }
+            Deed::Aggregate(aggregates) => {
+                let cells = merged_cells(alloc, &self.found, aggregates)?;
+                self.tell(alloc, found_cells(cells))
             }
             Deed::Insert(news) => {
                 let writing = plan_insert(
@@ -335,12 +345,12 @@ impl Job {
                 self.write(alloc, writing)
             }
             Deed::Update(changing) => {
-                let rows = take_merged(alloc, &mut self.found, place)?;
+                let rows = take_found(alloc, &mut self.found, place)?;
                 let writing = plan_update(alloc, self.targets.as_slice(), changing, rows)?;
                 self.write(alloc, writing)
             }
             Deed::Delete(placing) => {
-                let rows = take_merged(alloc, &mut self.found, place)?;
+                let rows = take_found(alloc, &mut self.found, place)?;
                 let writing = plan_delete(
                     alloc,
                     self.targets.as_slice(),
@@ -461,6 +471,26 @@ impl Job {
             heard: self.heard,
             stage,
         }
+    }
+}
+
+/// The rows, where there are some, as an outcome.
+fn found_rows(rows: Option<Rows>) -> Option<Outcome>
+    ensures { result ≡ option_map Outcome.Found rows }
+{
+    match rows {
+        Some(rows) => Some(Outcome::Found(rows)),
+        None => None,
+    }
+}
+
+/// The cells, where there are some, as an outcome.
+fn found_cells(cells: Option<CellRow>) -> Option<Outcome>
+    ensures { result ≡ option_map Outcome.Cells cells }
+{
+    match cells {
+        Some(cells) => Some(Outcome::Cells(cells)),
+        None => None,
     }
 }
 

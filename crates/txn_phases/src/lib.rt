@@ -26,10 +26,15 @@ mod writing;
 
 pub use changing::Changing;
 pub use deed::{Deed, Outcome, PlacedRow, PlacedRows, Refusal};
-pub use forms::{LONGEST_TEXT, is_done, is_rows};
+pub use forms::{LONGEST_TEXT, is_cells, is_done, is_rows};
 pub use job::{Job, Kinds, TableScan};
 pub use owed::Owed;
 pub use partitions::{PlacedKey, place_row};
 pub use phase::{Branch, Branches, Ending, Phase, Progress, Stage, Target, Targets};
 pub use placing::Placing;
 pub use requests::{Ask, Asks};
+
+#[cfg(test)]
+mod tests;
+#[cfg(test)]
+mod write_tests;

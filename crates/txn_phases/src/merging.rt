@@ -1,25 +1,15 @@
-//! The rows of several parts, in the order of their keys.
-ghost use Rattle.std.specs.Prelude.{◌≡◌, [], map, IfOk};
-ghost use Rattle.sql_text.specs.declared.link.LinkAnswer.TheVariants as answer;
-ghost use Rattle.txn_phases.specs.Deeds.{key_order, merged_within as within_meant};
+//! What the parts answered, put together.
+ghost use Rattle.std.specs.Prelude.{◌≡◌, ◌⊎◌, [], IfOk, OnErr};
+ghost use Rattle.front_rows.specs.Merging.{key_order};
+ghost use Rattle.txn_phases.specs.Deeds.{merged_within as within_meant, found_within, cells_within};
 
-use front_rows::{Answers, Order, RowsFault, Sort, merge_rows};
+use front_rows::{
+    Aggregates, Answers, CellRow, Order, RowsFault, Sort, merge_aggregates, merge_rows,
+};
 use list_types::Listed;
-use sql_text::LinkAnswer;
 use sql_values::Rows;
 use std::alloc::{AllocError, Global};
 use std::mem;
-
-/// The parts as answers.
-fn answers_of(alloc: Global, parts: Listed<Rows>) -> Result<Answers, AllocError>
-    ensures { IfOk result (λ answers. answers ≡ map answer.Rows parts) }
-{
-    let mut answers = Listed::new(alloc);
-    for rows in parts.into_vec() {
-        answers.push(LinkAnswer::Rows(rows))?;
-    }
-    Ok(answers)
-}
 
 /// The order of the key in this column.
 fn by_key(alloc: Global, place: u32) -> Result<Order, AllocError>
@@ -33,14 +23,18 @@ fn by_key(alloc: Global, place: u32) -> Result<Order, AllocError>
     Ok(order)
 }
 
-/// The rows of all parts, in the order of their keys; None where they are more than an answer may have.
-#[tactic(auto, using(crate::proofs::Merged::found_within, crate::proofs::Merged::found_too_large))]
-fn merged_within(alloc: Global, parts: Listed<Rows>, place: u32) -> Result<Option<Rows>, AllocError>
-    ensures { IfOk result (λ rows. rows ≡ within_meant place parts) }
+/// The rows of all parts, in this order and cut so; None where they are more than an answer may have.
+#[tactic(auto, using(crate::proofs::Merged::merged_within, crate::proofs::Merged::merged_too_large))]
+fn merged_within(
+    alloc: Global,
+    parts: Answers,
+    order: &Order,
+    skip: u64,
+    most: Option<u64>,
+) -> Result<Option<Rows>, AllocError>
+    ensures { IfOk result (λ rows. rows ≡ within_meant order.now skip most parts) }
 {
-    let answers = answers_of(alloc, parts)?;
-    let order = by_key(alloc, place)?;
-    match merge_rows(alloc, answers, &order, 0, None) {
+    match merge_rows(alloc, parts, order, skip, most) {
         Ok(rows) => Ok(Some(rows)),
         Err(RowsFault::Limit) => Ok(None),
         Err(RowsFault::NoMemory) => Err(AllocError),
@@ -50,12 +44,43 @@ fn merged_within(alloc: Global, parts: Listed<Rows>, place: u32) -> Result<Optio
 /// The same of parts that are taken away.
 pub(crate) fn take_merged(
     alloc: Global,
-    parts: &mut Listed<Rows>,
-    place: u32,
+    parts: &mut Answers,
+    order: &Order,
+    skip: u64,
+    most: Option<u64>,
 ) -> Result<Option<Rows>, AllocError>
-    ensures merged { IfOk result (λ rows. rows ≡ within_meant place parts.old) }
+    ensures merged { IfOk result (λ rows. rows ≡ within_meant order.now skip most parts.old) }
     ensures taken { parts.new ≡ [] }
 {
     let taken = mem::replace(parts, Listed::new(alloc));
-    merged_within(alloc, taken, place)
+    merged_within(alloc, taken, order, skip, most)
+}
+
+/// All rows of parts that are taken away, in the order of their keys.
+pub(crate) fn take_found(
+    alloc: Global,
+    parts: &mut Answers,
+    place: u32,
+) -> Result<Option<Rows>, AllocError>
+    ensures merged { IfOk result (λ rows. rows ≡ found_within place parts.old) }
+    ensures taken { IfOk result (λ _. parts.new ≡ []) }
+    ensures kept { OnErr result ((parts.new ≡ []) ⊎ (parts.new ≡ parts.old)) }
+{
+    let order = by_key(alloc, place)?;
+    take_merged(alloc, parts, &order, 0, None)
+}
+
+/// The aggregates over the rows of all parts; None where a sum is beyond 128 bits.
+pub(crate) fn merged_cells(
+    alloc: Global,
+    parts: &Answers,
+    aggregates: &Aggregates,
+) -> Result<Option<CellRow>, AllocError>
+    ensures { IfOk result (λ cells. cells ≡ cells_within aggregates.now parts.now) }
+{
+    match merge_aggregates(alloc, aggregates, parts) {
+        Ok(cells) => Ok(Some(cells)),
+        Err(RowsFault::Limit) => Ok(None),
+        Err(RowsFault::NoMemory) => Err(AllocError),
+    }
 }

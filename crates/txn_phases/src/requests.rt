@@ -1,6 +1,6 @@
 //! The requests of the phases.
 ghost use Rattle.std.specs.Prelude.{◌≡◌, ◌++◌, IfOk};
-ghost use Rattle.txn_phases.specs.Phases.{told as told_meant, begun_of, to_branches as to_these, scan_of as scan_meant, scans_of, puts_of, put_of, dels_of, del_of, servers_of as servers_asked};
+ghost use Rattle.txn_phases.specs.Phases.{told as told_meant, begun_of, order_of as order_meant, to_branches as to_these, scan_of as scan_meant, scans_of, puts_of, put_of, dels_of, del_of, servers_of as servers_asked};
 ghost use Rattle.txn_phases.specs.Deeds.{keys_in as keys_meant};
 
 use crate::deed::news_in;
@@ -84,15 +84,31 @@ fn copied(alloc: Global, cond: &Option<Cond>) -> Result<Option<Cond>, AllocError
     }
 }
 
+/// Rows come in the order of the key; aggregates have none.
+fn order_of(items: &ScanItems, key: &Name) -> Result<Option<Name>, AllocError>
+    ensures { IfOk result (λ order. order ≡ order_meant items.now key.now) }
+{
+    match items {
+        ScanItems::All => Ok(Some(key.clone()?)),
+        ScanItems::Aggregates(_) => Ok(None),
+    }
+}
+
+fn copied_items(items: &ScanItems) -> Result<ScanItems, AllocError>
+    ensures { IfOk result (λ copy. copy ≡ items.now) }
+{
+    items.clone()
+}
+
 fn scan_of(alloc: Global, scan: &TableScan, target: &Target) -> Result<LinkRequest, AllocError>
     ensures { IfOk result (λ request. request ≡ scan_meant scan.now target.now) }
 {
     Ok(LinkRequest::Scan(Scan {
         table: target.remote.clone()?,
-        items: ScanItems::All,
+        items: copied_items(&scan.items)?,
         cond: copied(alloc, &scan.cond)?,
-        order: Some(scan.key.clone()?),
-        limit: None,
+        order: order_of(&scan.items, &scan.key)?,
+        limit: scan.limit,
         lock: scan.lock,
     }))
 }

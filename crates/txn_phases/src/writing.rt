@@ -8,6 +8,7 @@ use crate::partitions::place_keys;
 use crate::requests::{Asks, dels, puts};
 use crate::weight::{deletes_too_much, writes_too_much};
 use crate::{Changing, Outcome, PlacedRow, Placing, TableScan, Target};
+use sql_text::LinkAnswer;
 use sql_values::{Row, Rows};
 use std::alloc::{AllocError, Global};
 
@@ -38,7 +39,7 @@ pub(crate) fn plan_insert(
     alloc: Global,
     targets: &[Target],
     place: u32,
-    found: &[Rows],
+    found: &[LinkAnswer],
     news: &[PlacedRow],
 ) -> Result<Writing, AllocError>
     ensures { IfOk result (λ writing. writing ≡ inserting targets.now place found.now news.now) }

@@ -32,7 +32,7 @@ use Rattle.front_core.specs.declared.work.Running.{Running}
 use Rattle.front_core.specs.declared.work.Work.{Work}
 use Rattle.front_core.specs.declared.work.Work.TheVariants.{Idle}
 use Rattle.front_core.specs.Core.{Stepped, begins, begins_by, begins_at, begins_on, answers, starts, goes_on, new_run, tx_of, table_named, table_at, is_table, work_of, most_turns, outcome_told, reply_on}
-use Rattle.front_core.specs.Jobs.{job_of, picks_by}
+use Rattle.front_core.specs.Jobs.{columns_by, job_of}
 use Rattle.front_core.specs.Outputs.{sends, answers_in, decided_in, acked_in}
 use Rattle.plain_sessions.specs.Exec.{Tables, with_rows, exec, exec_by, exec_at, exec_on, on_table, within_limit, limit_passed, reply_to}
 use Rattle.plain_sessions.specs.Held.{CanBeServed, stores_of}
@@ -194,7 +194,7 @@ starts_plain catalog drawn n sessions tables text s number table there idle at i
     let e = through_ends catalog (drawn + 1) sessions n run 6 false (stores_of catalog tables) p (stores_of catalog (with_rows tables number (exec_on table s (tables number)).1)) g.ending g.outcome there g.through in
     let given = goes_on catalog run p in
     let left = with_rows tables number (exec_on table s (tables number)).1 in
-    let reply : reply_on catalog run.picks (slice_get catalog.tables number) g.outcome ≡ (exec_on table s (tables number)).0 = ap (λ x. reply_on catalog run.picks x g.outcome) at ∙ g.told in
+    let reply : reply_on catalog run.columns (slice_get catalog.tables number) g.outcome ≡ (exec_on table s (tables number)).0 = ap (λ x. reply_on catalog run.columns x g.outcome) at ∙ g.told in
     let done : turns most_turns (busy catalog (drawn + 1) sessions n given.0 (stores_of catalog tables) (sends given.1)) n ≡ (busy catalog (drawn + 1) sessions n Idle (stores_of catalog left) [], e.outs) =
     ap (λ k. turns k (busy catalog (drawn + 1) sessions n given.0 (stores_of catalog tables) (sends given.1)) n) (left_turns e.steps e.few) ∙ e.turns_are (most_turns - e.steps) in
     let all : from_begin catalog sessions n tables (starts catalog (drawn + 1) run) ≡ (quiet catalog (drawn + 1) sessions left, given.1 ++ e.outs) =

@@ -1,19 +1,25 @@
 //! Rows found by their keys.
 
-ghost use Rattle.std.specs.Prelude.{◌≡◌, ◌++◌, ◌-◌, ◌≤◌, ◌≤ℤ◌, true, false, ℕ, Some, OnOk, IfOk, length, take, slice_get};
+ghost use Rattle.std.specs.Prelude.{◌≡◌, ◌++◌, ◌-◌, ◌≤◌, ◌≤ℤ◌, true, false, ℕ, None, Some, OnOk, IfOk, [], ◌∷◌, length, map, take, slice_get};
 ghost use Rattle.std.specs.List.{filter};
 ghost use Rattle.std.specs.Option.{IfSome};
 ghost use Rattle.sql_values.specs.declared.table.ColumnDef.{ColumnDef};
 ghost use Rattle.part_rules.specs.KeyRows.{HasOwnKeyName};
+ghost use Rattle.front_rows.specs.Aggregates.{cells_over as cells_meant};
+ghost use Rattle.stmt_plan.specs.Selects.{aggregate_of};
 ghost use Rattle.plain_tables.specs.Rows.{Rises, kept};
+ghost use Rattle.plain_tables.specs.Scans.{first_rows};
+ghost use Rattle.branch_store.specs.Faults.{calls_fault, scan_fault};
 ghost use Rattle.branch_store.specs.Scanning.{AreOfTable, MissesNone, lies_among, lies_within};
-ghost use Rattle.branch_store.specs.Store.{found as found_by, first_rows};
+ghost use Rattle.branch_store.specs.Store.{found as answer_meant, found_rows};
 
 use super::{RemoteTable, copied_row};
 use crate::Change;
+use crate::counting::{cells_over, first_row};
+use front_rows::CellRow;
 use list_types::Listed;
 use part_rules::keys_of;
-use sql_text::Scan;
+use sql_text::{AggregateCall, LinkAnswer, Scan, ScanItems};
 use sql_values::{ColumnDef, Cond, Interval, Intervals, Name, Rows, TableDef};
 use std::alloc::{AllocError, Global};
 
@@ -140,34 +146,79 @@ impl RemoteTable {
         alloc: Global,
         keys: &Intervals,
         changes: &[Change],
-        scan: &Scan,
+        cond: &Option<Cond>,
+        limit: Option<u64>,
     ) -> Result<Rows, AllocError>
         requires table { AreOfTable changes.now self.now }
-        requires keys { MissesNone self.now.def scan.now.cond keys.now }
-        ensures { IfOk result (λ rows. rows ≡ found_by changes.now self.now scan.now) }
+        requires keys { MissesNone self.now.def cond.now keys.now }
+        ensures { IfOk result (λ rows. rows ≡ found_rows changes.now self.now cond.now limit) }
     {
         if self.is_changed(changes) {
             let mut part = self.part(alloc, keys)?;
             part.change_all(changes)?;
-            part.limited(alloc, &scan.cond, scan.limit)
+            part.limited(alloc, cond, limit)
         } else {
-            self.limited_among(alloc, keys, &scan.cond, scan.limit)
+            self.limited_among(alloc, keys, cond, limit)
         }
     }
 
-    /// What a scan finds after these changes. A condition that keeps few keys costs a search for each interval of them, and the rows that stand there.
-    pub(crate) fn found(
+    /// The first rows after these changes on which a condition holds. One that keeps few keys costs a search for each interval of them, and the rows that stand
+    /// there.
+    fn found(
+        &self,
+        alloc: Global,
+        changes: &[Change],
+        cond: &Option<Cond>,
+        limit: Option<u64>,
+    ) -> Result<Rows, AllocError>
+        requires { AreOfTable changes.now self.now }
+        ensures { IfOk result (λ rows. rows ≡ found_rows changes.now self.now cond.now limit) }
+    {
+        match self.keys_for(alloc, cond)? {
+            Some(keys) => self.found_among(alloc, &keys, changes, cond, limit),
+            None => self.found_by_walk(alloc, changes, cond, limit),
+        }
+    }
+
+    /// The aggregates over all rows after these changes on which a condition holds, as one row, where one is wanted.
+    fn aggregates(
+        &self,
+        alloc: Global,
+        changes: &[Change],
+        calls: &[AggregateCall],
+        cond: &Option<Cond>,
+        limit: Option<u64>,
+    ) -> Result<Listed<CellRow>, AllocError>
+        requires table { AreOfTable changes.now self.now }
+        requires calls { calls_fault self.now.def calls.now ≡ None }
+        ensures { IfOk result (λ rows. rows ≡ first_rows limit (cells_meant (map (aggregate_of self.now.def) calls.now) (found_rows changes.now self.now cond.now None) ∷ [])) }
+    {
+        let rows = self.found(alloc, changes, cond, None)?;
+        let cells = cells_over(alloc, self.def(), calls, rows.as_slice())?;
+        first_row(alloc, limit, cells)
+    }
+
+    /// What a scan that fits the table is answered after these changes: the first rows, or the aggregates over all of them, as one row.
+    pub(crate) fn answer(
         &self,
         alloc: Global,
         changes: &[Change],
         scan: &Scan,
-    ) -> Result<Rows, AllocError>
-        requires { AreOfTable changes.now self.now }
-        ensures { IfOk result (λ rows. rows ≡ found_by changes.now self.now scan.now) }
+    ) -> Result<LinkAnswer, AllocError>
+        requires table { AreOfTable changes.now self.now }
+        requires scan { scan_fault self.now.def scan.now ≡ None }
+        ensures { IfOk result (λ answer. answer ≡ answer_meant changes.now self.now scan.now) }
     {
-        match self.keys_for(alloc, &scan.cond)? {
-            Some(keys) => self.found_among(alloc, &keys, changes, scan),
-            None => self.found_by_walk(alloc, changes, scan),
+        let cond = &scan.cond;
+        match &scan.items {
+            ScanItems::All => Ok(LinkAnswer::Rows(self.found(alloc, changes, cond, scan.limit)?)),
+            ScanItems::Aggregates(calls) => Ok(LinkAnswer::Cells(self.aggregates(
+                alloc,
+                changes,
+                calls.as_slice(),
+                cond,
+                scan.limit,
+            )?)),
         }
     }
 }

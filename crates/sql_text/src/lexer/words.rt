@@ -1,7 +1,7 @@
 //! Words: keywords and names.
 ghost use Rattle.std.specs.Prelude.{◌≡◌, IfOk, Some, None, if◌then◌else◌};
 ghost use Rattle.sql_values.specs.Names.{is_name, begins_name as may_begin, continues_name as may_continue};
-ghost use Rattle.sql_text.specs.Tokens.{is_word as word_is, basic_word, change_word, keyword_of, run, word_at, in_dialect as token_in_dialect, branch_word, scan_word, other_word, link_word};
+ghost use Rattle.sql_text.specs.Tokens.{is_word as word_is, basic_word, change_word, order_word, aggregate_word, keyword_of, run, word_at, in_dialect as token_in_dialect, link_word};
 
 use crate::token::{Dialect, Fixed, Token};
 use list_types::Text;
@@ -101,19 +101,69 @@ fn change_keyword(bytes: &[u8]) -> Option<Fixed>
     None
 }
 
+/// The keyword that the bytes are in ORDER BY and LIMIT.
+fn order_keyword(bytes: &[u8]) -> Option<Fixed>
+    ensures { result ≡ order_word bytes.now }
+{
+    if is_word(b"ORDER", bytes) {
+        return Some(Fixed::Order);
+    }
+    if is_word(b"BY", bytes) {
+        return Some(Fixed::By);
+    }
+    if is_word(b"ASC", bytes) {
+        return Some(Fixed::Asc);
+    }
+    if is_word(b"DESC", bytes) {
+        return Some(Fixed::Desc);
+    }
+    if is_word(b"LIMIT", bytes) {
+        return Some(Fixed::Limit);
+    }
+    if is_word(b"OFFSET", bytes) {
+        return Some(Fixed::Offset);
+    }
+    None
+}
+
+/// The keyword that the bytes are in an aggregate.
+fn aggregate_keyword(bytes: &[u8]) -> Option<Fixed>
+    ensures { result ≡ aggregate_word bytes.now }
+{
+    if is_word(b"COUNT", bytes) {
+        return Some(Fixed::Count);
+    }
+    if is_word(b"SUM", bytes) {
+        return Some(Fixed::Sum);
+    }
+    if is_word(b"MIN", bytes) {
+        return Some(Fixed::Min);
+    }
+    if is_word(b"MAX", bytes) {
+        return Some(Fixed::Max);
+    }
+    None
+}
+
 /// The keyword that the bytes are.
 fn keyword(bytes: &[u8]) -> Option<Fixed>
     ensures { result ≡ keyword_of bytes.now }
 {
-    match basic_keyword(bytes) {
-        Some(fixed) => Some(fixed),
-        None => change_keyword(bytes),
+    if let Some(fixed) = basic_keyword(bytes) {
+        return Some(fixed);
     }
+    if let Some(fixed) = change_keyword(bytes) {
+        return Some(fixed);
+    }
+    if let Some(fixed) = order_keyword(bytes) {
+        return Some(fixed);
+    }
+    aggregate_keyword(bytes)
 }
 
-/// The keyword that the bytes are in what is asked of a branch.
-fn branch_keyword(bytes: &[u8]) -> Option<Fixed>
-    ensures { result ≡ branch_word bytes.now }
+/// The keyword of link text alone that the bytes are.
+fn link_keyword(bytes: &[u8]) -> Option<Fixed>
+    ensures { result ≡ link_word bytes.now }
 {
     if is_word(b"XA", bytes) {
         return Some(Fixed::Xa);
@@ -136,58 +186,10 @@ fn branch_keyword(bytes: &[u8]) -> Option<Fixed>
     if is_word(b"RECOVER", bytes) {
         return Some(Fixed::Recover);
     }
-    None
-}
-
-/// The keyword that the bytes are at the end of a scan.
-fn scan_keyword(bytes: &[u8]) -> Option<Fixed>
-    ensures { result ≡ scan_word bytes.now }
-{
-    if is_word(b"ORDER", bytes) {
-        return Some(Fixed::Order);
-    }
-    if is_word(b"BY", bytes) {
-        return Some(Fixed::By);
-    }
-    if is_word(b"LIMIT", bytes) {
-        return Some(Fixed::Limit);
-    }
-    None
-}
-
-/// The keyword that the bytes are in a write, or in an aggregate.
-fn other_keyword(bytes: &[u8]) -> Option<Fixed>
-    ensures { result ≡ other_word bytes.now }
-{
     if is_word(b"REPLACE", bytes) {
         return Some(Fixed::Replace);
     }
-    if is_word(b"COUNT", bytes) {
-        return Some(Fixed::Count);
-    }
-    if is_word(b"SUM", bytes) {
-        return Some(Fixed::Sum);
-    }
-    if is_word(b"MIN", bytes) {
-        return Some(Fixed::Min);
-    }
-    if is_word(b"MAX", bytes) {
-        return Some(Fixed::Max);
-    }
     None
-}
-
-/// The keyword of link text alone that the bytes are.
-fn link_keyword(bytes: &[u8]) -> Option<Fixed>
-    ensures { result ≡ link_word bytes.now }
-{
-    if let Some(fixed) = branch_keyword(bytes) {
-        return Some(fixed);
-    }
-    if let Some(fixed) = scan_keyword(bytes) {
-        return Some(fixed);
-    }
-    other_keyword(bytes)
 }
 
 /// A token as it stands in a text of this kind.

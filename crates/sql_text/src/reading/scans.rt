@@ -1,66 +1,23 @@
 //! Scans.
 ghost use Rattle.std.specs.Prelude.{◌≡◌, ◌++◌, [], ◌∷◌, length};
-ghost use Rattle.sql_text.specs.declared.link.AggregateCall.TheVariants as calls;
 ghost use Rattle.sql_text.specs.declared.token.Fixed.TheVariants as fixed;
-ghost use Rattle.sql_text.specs.LinkGrammar.{count_of as value_of_count};
-ghost use Rattle.sql_text.specs.Reading.{Gives, one_at, column_at, parenthesized_at, further_at, with_front};
-ghost use Rattle.sql_text.specs.LinkReading.{star_at, count_at, aggregate_at, scan_items_at, order_at, limit_at, scan_at};
+ghost use Rattle.sql_text.specs.Reading.{Gives, aggregate_at, further_at, with_front};
+ghost use Rattle.sql_text.specs.LinkReading.{scan_items_at, order_at, limit_at, scan_at};
 
-use crate::cursor::{begins, behind, expect, name, open, syntax_error};
+use crate::cursor::{begins, behind, expect, name};
 use crate::fault::ReadError;
 use crate::link::{AggregateCall, LinkRequest, Scan, ScanItems};
+use crate::reading::aggregates::aggregate;
+use crate::reading::limits::count;
 use crate::reading::locks::lock;
-use crate::reading::names::column;
 use crate::reading::select::where_cond;
 use crate::token::{Fixed, Token};
 use list_types::Listed;
-use sql_values::{ColumnName, Name};
+use sql_values::Name;
 use std::alloc::Global;
 
 /// The most aggregates of a scan behind the first one.
 const MOST_FURTHER_AGGREGATES: usize = 999;
-
-/// COUNT's star in parentheses.
-#[tactic(auto, unfolding(crate::specs::LinkReading::count_at, crate::specs::LinkReading::star_at))]
-fn counted(depth: u32, tokens: &[Token]) -> Result<(AggregateCall, &[Token]), ReadError>
-    ensures { Gives (λ x. (x.0, x.1.now)) result (count_at depth tokens.now) }
-{
-    let rest = open(Fixed::Open, depth, tokens)?;
-    let rest = expect(Fixed::Star, rest)?;
-    let rest = expect(Fixed::Close, rest)?;
-    Ok((AggregateCall::Count, rest))
-}
-
-/// A column in parentheses.
-fn enclosed_column(depth: u32, tokens: &[Token]) -> Result<(ColumnName, &[Token]), ReadError>
-    ensures { Gives (λ x. (x.0, x.1.now)) result (parenthesized_at column_at depth tokens.now) }
-{
-    let rest = open(Fixed::Open, depth, tokens)?;
-    let (column, rest) = column(rest)?;
-    let rest = expect(Fixed::Close, rest)?;
-    Ok((column, rest))
-}
-
-/// A call of an aggregate function.
-#[tactic(auto, unfolding(crate::specs::LinkReading::aggregate_at))]
-fn aggregate(depth: u32, tokens: &[Token]) -> Result<(AggregateCall, &[Token]), ReadError>
-    ensures { Gives (λ x. (x.0, x.1.now)) result (aggregate_at depth tokens.now) }
-{
-    if begins(Fixed::Count, tokens) {
-        return counted(depth, behind(tokens));
-    }
-    if begins(Fixed::Sum, tokens) {
-        let (column, rest) = enclosed_column(depth, behind(tokens))?;
-        return Ok((AggregateCall::Sum(column), rest));
-    }
-    if begins(Fixed::Min, tokens) {
-        let (column, rest) = enclosed_column(depth, behind(tokens))?;
-        return Ok((AggregateCall::Min(column), rest));
-    }
-    let rest = expect(Fixed::Max, tokens)?;
-    let (column, rest) = enclosed_column(depth, rest)?;
-    Ok((AggregateCall::Max(column), rest))
-}
 
 /// Further aggregates, each behind a comma, behind those that are there.
 fn further_aggregates(
@@ -122,19 +79,6 @@ fn order<'a>(
             Ok((Some(key), rest))
         }
         ScanItems::Aggregates(_) => Ok((None, tokens)),
-    }
-}
-
-/// A count of rows.
-fn count(tokens: &[Token]) -> Result<(u64, &[Token]), ReadError>
-    ensures { Gives (λ x. (x.0, x.1.now)) result (one_at value_of_count tokens.now) }
-{
-    let [Token::Digits(number), rest @ ..] = tokens else {
-        return Err(syntax_error(tokens));
-    };
-    match u64::try_from(*number) {
-        Ok(count) => Ok((count, rest)),
-        Err(_) => Err(syntax_error(tokens)),
     }
 }
 

@@ -1,14 +1,17 @@
 //! SELECT.
 ghost use Rattle.std.specs.Prelude.{◌≡◌, ◌++◌, [], ◌∷◌, length};
 ghost use Rattle.sql_text.specs.declared.token.Fixed.TheVariants as fixed;
-ghost use Rattle.sql_text.specs.Reading.{Gives, item_at, select_items_at, tab_at, where_at, select_at, further_at, with_front};
+ghost use Rattle.sql_text.specs.Reading.{Gives, item_at, column_items_at, aggregate_item_at, aggregate_items_at, select_items_at, tab_at, where_at, select_at, further_at, with_front};
 
-use crate::cursor::{begins, behind, expect};
+use crate::cursor::{begins, behind, expect, name_stands};
 use crate::fault::ReadError;
+use crate::reading::aggregates::aggregate;
 use crate::reading::conditions::cond;
+use crate::reading::limits::limit;
 use crate::reading::locks::locked;
 use crate::reading::names::{alias, column, table};
-use crate::statement::{Item, Select, SelectItems, Statement, Tab};
+use crate::reading::orders::order;
+use crate::statement::{AggregateItem, Item, Select, SelectItems, Statement, Tab};
 use crate::token::{Fixed, Token};
 use list_types::Listed;
 use sql_values::Cond;
@@ -52,18 +55,84 @@ fn further_items(
     Ok((items, rest))
 }
 
-/// The items of a SELECT.
-#[tactic(auto, unfolding(crate::specs::Reading::select_items_at))]
-fn select_items(alloc: Global, tokens: &[Token]) -> Result<(SelectItems, &[Token]), ReadError>
-    ensures { Gives (λ x. (x.0, x.1.now)) result (select_items_at tokens.now) }
+/// Columns with commas between them.
+#[tactic(auto, unfolding(crate::specs::Reading::column_items_at))]
+fn column_items(alloc: Global, tokens: &[Token]) -> Result<(SelectItems, &[Token]), ReadError>
+    ensures { Gives (λ x. (x.0, x.1.now)) result (column_items_at tokens.now) }
 {
-    if begins(Fixed::Star, tokens) {
-        return Ok((SelectItems::All, behind(tokens)));
-    }
     let (first, rest) = item(tokens)?;
     let first = vec![in alloc; first]?;
     let (items, rest) = further_items(MOST_FURTHER_ITEMS, first, rest)?;
     Ok((SelectItems::Columns(Listed::from_vec(items)), rest))
+}
+
+/// An aggregate with its alias.
+#[tactic(auto, unfolding(crate::specs::Reading::aggregate_item_at))]
+fn aggregate_item(depth: u32, tokens: &[Token]) -> Result<(AggregateItem, &[Token]), ReadError>
+    ensures { Gives (λ x. (x.0, x.1.now)) result (aggregate_item_at depth tokens.now) }
+{
+    let (call, rest) = aggregate(depth, tokens)?;
+    let (alias, rest) = alias(rest)?;
+    Ok((AggregateItem { call, alias }, rest))
+}
+
+/// Further aggregates, each behind a comma, behind those that are there.
+fn further_aggregate_items(
+    depth: u32,
+    most: usize,
+    first: Vec<AggregateItem>,
+    tokens: &[Token],
+) -> Result<(Vec<AggregateItem>, &[Token]), ReadError>
+    ensures { Gives (λ x. (x.0.items, x.1.now)) result (with_front first.items (further_at most fixed.Comma (aggregate_item_at depth) tokens.now)) }
+{
+    let mut items = first;
+    let mut rest = tokens;
+    for _ in 0..most {
+        if !begins(Fixed::Comma, rest) {
+            return Ok((items, rest));
+        }
+        match aggregate_item(depth, behind(rest)) {
+            Ok((part, more)) => {
+                items.push(part)?;
+                rest = more;
+            }
+            Err(error) => return Err(error),
+        }
+    }
+    Ok((items, rest))
+}
+
+/// Aggregates with commas between them.
+#[tactic(auto, unfolding(crate::specs::Reading::aggregate_items_at))]
+fn aggregate_items(
+    alloc: Global,
+    depth: u32,
+    tokens: &[Token],
+) -> Result<(SelectItems, &[Token]), ReadError>
+    ensures { Gives (λ x. (x.0, x.1.now)) result (aggregate_items_at depth tokens.now) }
+{
+    let (first, rest) = aggregate_item(depth, tokens)?;
+    let first = vec![in alloc; first]?;
+    let (items, rest) = further_aggregate_items(depth, MOST_FURTHER_ITEMS, first, rest)?;
+    Ok((SelectItems::Aggregates(Listed::from_vec(items)), rest))
+}
+
+/// The items of a SELECT.
+#[tactic(auto, unfolding(crate::specs::Reading::select_items_at))]
+fn select_items(
+    alloc: Global,
+    depth: u32,
+    tokens: &[Token],
+) -> Result<(SelectItems, &[Token]), ReadError>
+    ensures { Gives (λ x. (x.0, x.1.now)) result (select_items_at depth tokens.now) }
+{
+    if begins(Fixed::Star, tokens) {
+        return Ok((SelectItems::All, behind(tokens)));
+    }
+    if name_stands(tokens) {
+        return column_items(alloc, tokens);
+    }
+    aggregate_items(alloc, depth, tokens)
 }
 
 /// A table with its alias.
@@ -102,15 +171,19 @@ pub fn select(
     ensures { Gives (λ x. (x.0, x.1.now)) result (select_at depth tokens.now) }
 {
     let rest = expect(Fixed::Select, tokens)?;
-    let (items, rest) = select_items(alloc, rest)?;
+    let (items, rest) = select_items(alloc, depth, rest)?;
     let rest = expect(Fixed::From, rest)?;
     let (tab, rest) = tab(rest)?;
     let (cond, rest) = where_cond(alloc, depth, rest)?;
+    let (order, rest) = order(alloc, &items, rest)?;
+    let (limit, rest) = limit(&items, rest)?;
     let (lock, rest) = locked(rest)?;
     let select = Select {
         items,
         tab,
         cond,
+        order,
+        limit,
         lock,
     };
     Ok((Statement::Select(select), rest))

@@ -1,6 +1,6 @@
 use Rattle.std.proofs.Common.{◌≡◌, ◌++◌, drop, map, codes}
 use Rattle.std.specs.List.{flat_map}
-use Rattle.sql_text.specs.LinkPrinting.{call_text}
+use Rattle.sql_text.specs.Printing.{call_text}
 use Rattle.sql_text.proofs.link_printing.push_further_calls.Given as goal
 
 -- what is added so far, and what is left to add, is all

@@ -1,31 +1,17 @@
-use Rattle.std.proofs.Common.{◌≡◌, ℕ, ◌+◌, ◌&&◌, Bool, true, false, List, [], ◌∷◌, ◌++◌, drop, refl, ap, sym, ◌∙◌, arith, Option, Some, None}
-use Rattle.std.specs.Option.{option_map, option_or}
+use Rattle.std.proofs.Common.{◌≡◌, ◌+◌, ◌&&◌, Bool, true, false, List, ◌∷◌, drop, ap, sym, ◌∙◌, arith}
 use Rattle.std.proofs.lemmas.Grind.{common_steps}
 use Rattle.std.proofs.lemmas.List.{drop_more}
-use Rattle.sql_values.specs.declared.table.TableDef.{TableDef}
-use Rattle.sql_values.specs.declared.tree.ColumnName.{ColumnName}
-use Rattle.sql_values.specs.Checks.{first_column, is_unknown, expr_columns}
+use Rattle.sql_values.specs.Checks.{expr_columns}
 use Rattle.sql_text.specs.declared.statement.Assignment.{Assignment}
-use Rattle.stmt_plan.specs.declared.fault.StmtFault.TheVariants.{NoColumn}
 use Rattle.stmt_plan.specs.Chosen.{unknown_fault}
 use Rattle.stmt_plan.specs.Settings.{name_set, assigned_columns, setting, settings, fits_column, sets_fit}
-use Rattle.stmt_plan.proofs.Seeks.{first-append}
+use Rattle.stmt_plan.proofs.Seeks.{past_known}
 use Rattle.stmt_plan.proofs.setting.settings.Goals as goal
 
 -- what fits so far, with one more that fits or not
 one_more : (so_far fits fit rest all : Bool) → fits ≡ fit → (so_far && (fit && rest)) ≡ all → ((so_far && fits) && rest) ≡ all
 one_more true fits fit rest all same is = ap (λ (b : Bool). b && rest) same ∙ is
 one_more false fits fit rest all same is = is
-
-none_first : (first rest : Option (List ℕ)) → option_map NoColumn first ≡ None → option_map NoColumn (option_or first rest) ≡ option_map NoColumn rest
-none_first None rest none = refl
-none_first (Some n) rest none = let no : Some (NoColumn n) ≡ None = none in cc
-
--- past names that are all known
-past_known : (table : TableDef) (names rest : List ColumnName) → unknown_fault table names ≡ None → unknown_fault table (names ++ rest) ≡ unknown_fault table rest
-past_known table names rest none =
-    ap (option_map NoColumn) (first-append (is_unknown (table ∷ [])) names rest)
-    ∙ none_first (first_column (is_unknown (table ∷ [])) names) (first_column (is_unknown (table ∷ [])) rest) none
 
 pub loop-assignment-preserved : goal.loop-assignment-preserved
 loop-assignment-preserved c =

@@ -1,7 +1,6 @@
 use Rattle.std.proofs.Common.{◌≡◌, ◌-◌, true, false, arith}
 use Rattle.sql_text.specs.declared.token.Fixed.TheVariants as fixed
-use Rattle.sql_text.specs.Reading.{begins}
-use Rattle.sql_text.specs.LinkReading.{aggregate_at}
+use Rattle.sql_text.specs.Reading.{begins, aggregate_at}
 use Rattle.sql_text.proofs.Series.{stopped, pushed, failed}
 use Rattle.sql_text.proofs.reading.scans.further_aggregates.Goals as goal
 

@@ -1,7 +1,6 @@
 use Rattle.std.proofs.Common.{◌≡◌, ◌-◌}
 use Rattle.sql_text.specs.declared.token.Fixed.TheVariants as fixed
-use Rattle.sql_text.specs.Reading.{further_at, with_front}
-use Rattle.sql_text.specs.LinkReading.{aggregate_at}
+use Rattle.sql_text.specs.Reading.{further_at, with_front, aggregate_at}
 use Rattle.sql_text.proofs.reading.scans.further_aggregates.Given as goal
 
 -- what is read so far, and what is read of the rest, is all
