@@ -349,3 +349,48 @@ fn a_session_names_the_end_that_failed(rt: HostRuntime) -> Result<(), Fail> {
     assert!(rt; is_fault(alloc, Vec::new(alloc), fails, b"outside fault: output\n")?);
     Ok(())
 }
+
+/// What is told of twenty statements that the seed 1 generates, computed apart from this program.
+const SUMMARY: &[u8] =
+    b"statements 20\nok 11\nrows 9\nrefused 0\ndecided 20\nlink t - 0 s1 OK 0 rows 6\n";
+
+#[test]
+fn generated_statements_are_counted(rt: HostRuntime) -> Result<(), Fail> {
+    let alloc = rt.alloc();
+    let ran = call(
+        alloc,
+        "workload conf 1 20",
+        CONF,
+        b"",
+        Vec::new(alloc),
+        Vec::new(alloc),
+    )?;
+    assert_eq!(rt; ran.status, 0);
+    assert_eq!(rt; ran.out.as_slice(), SUMMARY);
+    Ok(())
+}
+
+/// Whether the words have no form.
+fn is_usage(alloc: Global, words: &str) -> Result<bool, AllocError> {
+    let ran = call(alloc, words, CONF, b"", Vec::new(alloc), Vec::new(alloc))?;
+    Ok(ran.status == 2 && ran.out.is_empty())
+}
+
+#[test]
+fn workloads_have_their_numbers(rt: HostRuntime) -> Result<(), Fail> {
+    let alloc = rt.alloc();
+    let table: [&str; 8] = [
+        "workload conf 1",
+        "workload conf 1 0",
+        "workload conf 1 100001",
+        "workload conf 18446744073709551616 1",
+        "workload conf +1 1",
+        "workload conf 1 1x",
+        "workload -conf 1 1",
+        "workload conf 1 1 1",
+    ];
+    for words in table {
+        assert!(rt; is_usage(alloc, words)?);
+    }
+    Ok(())
+}

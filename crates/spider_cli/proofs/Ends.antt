@@ -14,7 +14,7 @@ use Rattle.conf_check.specs.Links.{links_text}
 use Rattle.spider_cli.specs.Playing.{Plays}
 use Rattle.wire_play.specs.Wires.{Wires}
 use Rattle.spider_cli.specs.Outcome.{code_of}
-use Rattle.spider_cli.specs.Top.{Form, Check, Play, Wire, form_of, WritesFront, WiresFront, IsStarted, IsConfigured, FrontBy, WholeBy, StopsAt, IsRefused, Does, RunsOn, Checked, DoesOn, Did, Runs, IsFrontOf, IsWhole, IsStopped}
+use Rattle.spider_cli.specs.Top.{Form, Check, Play, Wire, Workload, form_of, workload_summary, WritesFront, WiresFront, IsStarted, IsConfigured, FrontBy, WholeBy, StopsBy, IsRefused, Does, RunsOn, Checked, Worked, DoesOn, Did, Runs, IsFrontOf, IsWhole, IsStopped}
 
 -- What the cases of an outcome have in common.
 
@@ -58,6 +58,7 @@ module _ {F S K : Type 0} (holds : F → List ℕ → Option (List ℕ) → Type
 
   does_front : (catalog : View) (form : Form) (how : Outcome) → Done catalog form how → FrontBy gives has_ended takes source rest sink full form catalog
   does_front catalog (Check path) how d = absurd d
+  does_front catalog (Workload path seed count) how d = absurd d
   does_front catalog (Play path) outcome.Done d = played catalog _ d
   does_front catalog (Play path) (outcome.Refused line rule) d = played catalog _ d
   does_front catalog (Play path) (outcome.Fault object.Input) d = played catalog _ d.1
@@ -100,10 +101,28 @@ module _ {F S K : Type 0} (holds : F → List ℕ → Option (List ℕ) → Type
   check_front conf path outcome.NoMemory s r d = inl (r, d)
   check_front conf path outcome.Usage s r d = absurd d
 
+  -- one on which statements are generated
+  work_front : (conf path : List ℕ) (seed count : ℕ) (how : Outcome) → Started (Workload path seed count) conf → rest ≡ source → Worked takes write_faults sink full conf seed count how → Front
+  work_front conf path seed count outcome.Done s r d =
+      let form = Workload path seed count in
+      let whole = d.2 in
+      let told = workload_summary d.0 seed count in
+      inr (form, d.0, configured form conf d.0 s d.1, (r, record { written = told; unbroken = whole.unbroken; taken = whole.taken; front = ([], append-nil told) }))
+  work_front conf path seed count (outcome.Refused line rule) s r d = inl (r, d.3)
+  work_front conf path seed count (outcome.Fault object.Output) s r d =
+      let form = Workload path seed count in
+      inr (form, d.1, configured form conf d.1 s d.2, (r, d.3))
+  work_front conf path seed count (outcome.Fault object.Input) s r d = absurd d
+  work_front conf path seed count (outcome.Fault object.Conf) s r d = absurd d
+  work_front conf path seed count (outcome.Conf rule) s r d = inl (r, d.1)
+  work_front conf path seed count outcome.NoMemory s r d = inl (r, d)
+  work_front conf path seed count outcome.Usage s r d = absurd d
+
   on_front : (conf : List ℕ) (form : Form) (how : Outcome) → Started form conf → On conf form how → Front
   on_front conf (Check path) how s d = check_front conf path how s d.0 d.1
   on_front conf (Play path) how s d = run_front conf (Play path) how s d
   on_front conf (Wire path) how s d = run_front conf (Wire path) how s d
+  on_front conf (Workload path seed count) how s d = work_front conf path seed count how s d.0 d.1
 
   did_front : (how : Outcome) → DidSo how → Front
   did_front how (form, conf, s, d) = on_front conf form how s d
@@ -124,6 +143,7 @@ module _ {F S K : Type 0} (holds : F → List ℕ → Option (List ℕ) → Type
 
   whole_by : (catalog : View) (form : Form) → Done catalog form outcome.Done → WholeBy gives has_ended takes source rest sink full form catalog
   whole_by catalog (Check path) d = absurd d
+  whole_by catalog (Workload path seed count) d = absurd d
   whole_by catalog (Play path) p = record { read = p.read; written = p.written; given = p.given; taken = p.taken; whole = (p.done refl).0; ended = (p.done refl).1 }
   whole_by catalog (Wire path) d =
       let w = d.2 in
@@ -146,6 +166,9 @@ module _ {F S K : Type 0} (holds : F → List ℕ → Option (List ℕ) → Type
   whole_on conf (Check path) s d = (Check path, d.1.0, configured (Check path) conf d.1.0 s d.1.1, (d.0, d.1.2))
   whole_on conf (Play path) s d = (Play path, d.0, configured (Play path) conf d.0 s d.1, whole_by d.0 (Play path) d.2)
   whole_on conf (Wire path) s d = (Wire path, d.0, configured (Wire path) conf d.0 s d.1, whole_by d.0 (Wire path) d.2)
+  whole_on conf (Workload path seed count) s d =
+      let form = Workload path seed count in
+      (form, d.1.0, configured form conf d.1.0 s d.1.1, (d.0, d.1.2))
 
   whole_did : DidSo outcome.Done → Whole
   whole_did (form, conf, s, d) = whole_on conf form s d
@@ -190,11 +213,13 @@ module _ {F S K : Type 0} (holds : F → List ℕ → Option (List ℕ) → Type
   input_rose conf (Check path) d = absurd d.1
   input_rose conf (Play path) d = d.2.0
   input_rose conf (Wire path) d = d.2.0
+  input_rose conf (Workload path seed count) d = absurd d.1
 
   output_rose : (conf : List ℕ) (form : Form) → On conf form (outcome.Fault object.Output) → HasRisen (write_faults sink) (write_faults full)
   output_rose conf (Check path) d = d.1.0
   output_rose conf (Play path) d = d.2.0
   output_rose conf (Wire path) d = d.2.0
+  output_rose conf (Workload path seed count) d = d.1.0
 
   -- status 1 comes only where a count rose
   pub rose : (how : Outcome) → code_of how ≡ 1 → Ran how
@@ -216,15 +241,19 @@ module _ {F S K : Type 0} (holds : F → List ℕ → Option (List ℕ) → Type
   is_refused outcome.Done e r = absurd (cc)
   is_refused (outcome.Refused line rule) e r = absurd (cc)
 
-  stopped : (catalog : View) (form : Form) (line : ℕ) (rule : LineRule) → Done catalog form (outcome.Refused line rule) → StopsAt gives has_ended takes source rest sink full catalog line rule
+  stopped : (catalog : View) (form : Form) (line : ℕ) (rule : LineRule) → Done catalog form (outcome.Refused line rule) → StopsBy gives has_ended takes source rest sink full form catalog line rule
   stopped catalog (Play path) line rule p = record { read = p.read; written = p.written; given = p.given; taken = p.taken; stopped = p.refused line rule refl }
   stopped catalog (Wire path) line rule d = absurd d
   stopped catalog (Check path) line rule d = absurd d
+  stopped catalog (Workload path seed count) line rule d = absurd d
 
   stopped_on : (conf : List ℕ) (form : Form) (line : ℕ) (rule : LineRule) → Started form conf → On conf form (outcome.Refused line rule) → Stopped line rule
   stopped_on conf (Check path) line rule s d = absurd d.1
   stopped_on conf (Play path) line rule s d = (Play path, d.0, configured (Play path) conf d.0 s d.1, stopped d.0 (Play path) line rule d.2)
   stopped_on conf (Wire path) line rule s d = (Wire path, d.0, configured (Wire path) conf d.0 s d.1, stopped d.0 (Wire path) line rule d.2)
+  stopped_on conf (Workload path seed count) line rule s d =
+      let form = Workload path seed count in
+      (form, d.1.0, configured form conf d.1.0 s d.1.1, (d.0, d.1.2, d.1.3))
 
   -- status 5 is no other outcome's than a refused line's
   pub stops_at : (how : Outcome) → code_of how ≡ 5 → Ran how → (line : ℕ) × (rule : LineRule) × Stopped line rule

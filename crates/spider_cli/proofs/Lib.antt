@@ -1,5 +1,7 @@
 pub mod Carried
+pub mod Digits
 pub mod Ends
+pub mod Generating
 pub mod LineWords
 pub mod Outputs
 pub mod Sessions

@@ -7,3 +7,4 @@ abbrev pub form_view : Form → spec.Form
 form_view (code.Check path) = spec.Check path.now
 form_view (code.Play path) = spec.Play path.now
 form_view (code.Wire path) = spec.Wire path.now
+form_view (code.Workload path seed count) = spec.Workload path.now seed count

@@ -5,4 +5,5 @@ pub mod Outcome
 pub mod Playing
 pub mod Showing
 pub mod Shown
+pub mod Summing
 pub mod Top

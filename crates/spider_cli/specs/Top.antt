@@ -1,5 +1,6 @@
-use Rattle.std.specs.Prelude.{◌≡◌, ◌⊎◌, ℕ, ◌==◌, Bool, false, List, [], ◌∷◌, Option, Some, None, IsSome, if◌then◌else◌, codes}
-use Rattle.std.specs.Str.{bytes_eq}
+use Rattle.std.specs.Prelude.{◌≡◌, ◌⊎◌, ℕ, ◌-◌, ◌^◌, ◌==◌, ◌&&◌, Bool, false, nat_le, nat_lt, List, [], ◌∷◌, length, Option, Some, None, IsSome, if◌then◌else◌, codes}
+use Rattle.std.specs.Str.{all_ascii_digits, bytes_eq}
+use Rattle.std.specs.Str.Parse.{digits_value}
 use Rattle.my_wire.specs.Counts.{HasRisen, TakesFront, IsFront}
 use Rattle.spider_cli.specs.declared.outcome.Object.TheVariants as object
 use Rattle.spider_cli.specs.declared.outcome.Outcome.{Outcome}
@@ -10,7 +11,9 @@ use Rattle.catalog.specs.Conf.{IsCatalog}
 use Rattle.catalog.specs.Views.{View}
 use Rattle.conf_check.specs.Links.{links_text}
 use Rattle.spider_cli.specs.Configurations.{Breaks}
-use Rattle.world_runs.specs.Run.{transcript}
+use Rattle.world_runs.specs.Run.{Told, transcript}
+use Rattle.workload.specs.Generated.{played_count, workload_schedule}
+use Rattle.workload.specs.Summary.{summary}
 use Rattle.my_wire.specs.Packets.{first_packet}
 use Rattle.my_messages.specs.declared.session_end.SessionEnd.{SessionEnd}
 use Rattle.my_messages.specs.declared.session_end.SessionEnd.TheVariants as ends
@@ -22,17 +25,20 @@ use Rattle.wire_play.specs.Wires.{Wires}
 
 -- THE WORDS
 
--- what the words ask for of a configuration of that path: to check it, to play a schedule on it, or to serve one session of packets
+-- what the words ask for of a configuration of that path: to check it, to play a schedule on it, to serve one session of packets, or to play so many
+-- statements that a seed generates
 pub data Form : Type 0 where
   Check : List ℕ → Form
   Play : List ℕ → Form
   Wire : List ℕ → Form
+  Workload : List ℕ → ℕ → ℕ → Form
 
 -- the path of the configuration
 abbrev pub path_of : Form → List ℕ
 path_of (Check path) = path
 path_of (Play path) = path
 path_of (Wire path) = path
+path_of (Workload path seed count) = path
 
 -- a word that begins with a dash
 abbrev pub has_dash : List ℕ → Bool
@@ -48,12 +54,32 @@ word_form word path =
     else if bytes_eq word (codes "wire") then Some (Wire path)
     else None
 
--- the form of the words, where they have one that is built
+-- the number that a word of decimal digits writes, where it is one of these
+abbrev pub number_within : ℕ → ℕ → List ℕ → Option ℕ
+number_within least most word =
+    if nat_lt 0 (length word) && (all_ascii_digits word && (nat_le least (digits_value 10 word) && nat_le (digits_value 10 word) most)) then Some (digits_value 10 word) else None
+
+-- with both numbers
+abbrev pub seeded : List ℕ → Option ℕ → Option ℕ → Option Form
+seeded path None count = None
+seeded path (Some seed) None = None
+seeded path (Some seed) (Some count) = Some (Workload path seed count)
+
+-- the form that a first word, a path and two numbers make
+abbrev pub numbers_form : List ℕ → List ℕ → List ℕ → List ℕ → Option Form
+numbers_form word path seed count =
+    if has_dash path then None
+    else if bytes_eq word (codes "workload") then seeded path (number_within 0 (2 ^ 64 - 1) seed) (number_within 1 100000 count)
+    else None
+
+-- the form of the words, where they have one
 abbrev pub form_of : List (List ℕ) → Option Form
 form_of [] = None
 form_of (word ∷ []) = None
 form_of (word ∷ path ∷ []) = word_form word path
-form_of (word ∷ path ∷ other ∷ words) = None
+form_of (word ∷ path ∷ seed ∷ []) = None
+form_of (word ∷ path ∷ seed ∷ count ∷ []) = numbers_form word path seed count
+form_of (word ∷ path ∷ seed ∷ count ∷ other ∷ words) = None
 
 -- ERROR OUTPUT
 
@@ -70,7 +96,38 @@ module _ {K : Type 0} (takes : K → List ℕ → K → Type 0) (catalog : View)
     pub taken : takes sink written full
     pub front : IsFront written (links_text catalog)
 
+-- the transcript of the statements that a seed generates, so many, and what is told of it
+abbrev pub generated : View → ℕ → ℕ → Told
+generated catalog seed count = transcript catalog (workload_schedule catalog seed count)
+
+abbrev pub workload_summary : View → ℕ → ℕ → List ℕ
+workload_summary catalog seed count = summary (played_count catalog.tables count) (generated catalog seed count).text
+
+module _ {K : Type 0} (takes : K → List ℕ → K → Type 0) (catalog : View) (seed count : ℕ) (sink full : K) where
+  -- no generated line breaks a rule, and what was written is a front of what is told of their transcript
+  pub record SummaryFront : Type 0 where
+    pub written : List ℕ
+    pub unbroken : (generated catalog seed count).refusal ≡ None
+    pub taken : takes sink written full
+    pub front : IsFront written (workload_summary catalog seed count)
+
+  -- it is the whole
+  pub record SummaryWhole : Type 0 where
+    pub unbroken : (generated catalog seed count).refusal ≡ None
+    pub taken : takes sink (workload_summary catalog seed count) full
+
 module _ {K : Type 0} (takes : K → List ℕ → K → Type 0) (write_faults : K → ℕ) (sink full : K) where
+  -- generated statements were played on a configuration: what is told of their transcript was written, or nothing where a line broke a rule
+  abbrev pub Worked : List ℕ → ℕ → ℕ → Outcome → Type 0
+  Worked conf seed count (outcome.Conf rule) = Breaks conf rule × (full ≡ sink)
+  Worked conf seed count outcome.Done = (catalog : View) × IsCatalog conf catalog × SummaryWhole takes catalog seed count sink full
+  Worked conf seed count (outcome.Refused line rule) = (catalog : View) × IsCatalog conf catalog × ((generated catalog seed count).refusal ≡ Some (line, rule)) × (full ≡ sink)
+  Worked conf seed count (outcome.Fault object.Output) = HasRisen (write_faults sink) (write_faults full) × (catalog : View) × IsCatalog conf catalog × SummaryFront takes catalog seed count sink full
+  Worked conf seed count (outcome.Fault object.Input) = ⊥
+  Worked conf seed count (outcome.Fault object.Conf) = ⊥
+  Worked conf seed count outcome.NoMemory = full ≡ sink
+  Worked conf seed count outcome.Usage = ⊥
+
   -- a configuration was checked: its links were written, or it breaks a rule, and then nothing was
   abbrev pub Checked : List ℕ → Outcome → Type 0
   Checked conf (outcome.Conf rule) = Breaks conf rule × (full ≡ sink)
@@ -146,11 +203,20 @@ module _ {S K : Type 0} (gives : S → List ℕ → S → Type 0) (has_ended : S
   FrontBy (Check path) catalog = (rest ≡ source) × LinksFront takes catalog sink full
   FrontBy (Play path) catalog = WritesFront catalog
   FrontBy (Wire path) catalog = WiresFront catalog
+  FrontBy (Workload path seed count) catalog = (rest ≡ source) × SummaryFront takes catalog seed count sink full
 
   abbrev pub WholeBy : Form → View → Type 0
   WholeBy (Check path) catalog = (rest ≡ source) × takes sink (links_text catalog) full
   WholeBy (Play path) catalog = WritesWhole catalog
   WholeBy (Wire path) catalog = WiresWhole catalog
+  WholeBy (Workload path seed count) catalog = (rest ≡ source) × SummaryWhole takes catalog seed count sink full
+
+  -- a line broke a rule: it is the transcript of those before it, and nothing of generated ones
+  abbrev pub StopsBy : Form → View → ℕ → LineRule → Type 0
+  StopsBy (Check path) catalog line rule = ⊥
+  StopsBy (Play path) catalog line rule = StopsAt catalog line rule
+  StopsBy (Wire path) catalog line rule = ⊥
+  StopsBy (Workload path seed count) catalog line rule = (rest ≡ source) × ((generated catalog seed count).refusal ≡ Some (line, rule)) × (full ≡ sink)
 
 -- THE CONFIGURATION
 
@@ -193,6 +259,7 @@ module _ {S K : Type 0} (gives : S → List ℕ → S → Type 0) (has_ended : S
   -- what the form asks for of a configuration, by how it ended, with its cause
   abbrev pub Does : View → Form → Outcome → Type 0
   Does catalog (Check path) how = ⊥
+  Does catalog (Workload path seed count) how = ⊥
   Does catalog (Play path) outcome.Done = Played catalog end.Done
   Does catalog (Play path) (outcome.Refused line rule) = Played catalog (end.Refused line rule)
   Does catalog (Play path) (outcome.Fault object.Input) = HasRisen (read_faults source) (read_faults rest) × Played catalog end.ReadFault
@@ -222,6 +289,7 @@ module _ {S K : Type 0} (gives : S → List ℕ → S → Type 0) (has_ended : S
   DoesOn conf (Check path) how = (rest ≡ source) × Checked takes write_faults sink full conf how
   DoesOn conf (Play path) how = RunsOn conf (Play path) how
   DoesOn conf (Wire path) how = RunsOn conf (Wire path) how
+  DoesOn conf (Workload path seed count) how = (rest ≡ source) × Worked takes write_faults sink full conf seed count how
 
 module _ {F S K : Type 0} (holds : F → List ℕ → Option (List ℕ) → Type 0) (file_faults : F → ℕ) (gives : S → List ℕ → S → Type 0) (has_ended : S → Type 0) (read_faults : S → ℕ)
     (takes : K → List ℕ → K → Type 0) (write_faults : K → ℕ) (words : List (List ℕ)) (files left : F) (source rest : S) (sink full : K) where
@@ -251,6 +319,6 @@ module _ {F S K : Type 0} (holds : F → List ℕ → Option (List ℕ) → Type
   abbrev pub IsWhole : Type 0
   IsWhole = (form : Form) × (catalog : View) × IsConfigured holds words files form catalog × WholeBy gives has_ended takes source rest sink full form catalog
 
-  -- what was written is the transcript up to the first line that breaks a rule
+  -- a line of the schedule breaks a rule, the first that does
   abbrev pub IsStopped : ℕ → LineRule → Type 0
-  IsStopped line rule = (form : Form) × (catalog : View) × IsConfigured holds words files form catalog × StopsAt gives has_ended takes source rest sink full catalog line rule
+  IsStopped line rule = (form : Form) × (catalog : View) × IsConfigured holds words files form catalog × StopsBy gives has_ended takes source rest sink full form catalog line rule

@@ -1,12 +1,14 @@
 //! The program `spider_local`: its top call.
 //!
-//! [`spider_local`] does what the command's words say, over any files, input, output and error output. Of the forms of the words three
-//! are built. `check CONF` writes the links of a configuration, or says which rule it breaks. `play CONF` plays the schedule on the input, with the front, its
+//! [`spider_local`] does what the command's words say, over any files, input, output and error output.
+//! `check CONF` writes the links of a configuration, or says which rule it breaks. `play CONF` plays the schedule on the input, with the front, its
 //! servers' stores and what lies between in memory, and writes the transcript. `wire CONF` serves one session of packets of the MySQL protocol, from the first
-//! command on, between the input and the output.
+//! command on, between the input and the output. `workload CONF SEED N` plays N statements that a seed generates as `play` would, and writes what is told of
+//! their transcript in short.
 //!
 //! The way of a line: `world_play` cuts it out of the input, `schedule` reads it, `world` hands its statement to `front_core` and
-//! that one's requests to `branch_store`, and `transcript` writes what the front gave out. `end_text` writes what the servers hold at the end. `laws` states
+//! that one's requests to `branch_store`, and `transcript` writes what the front gave out. `end_text` writes what the servers hold at the end. `workload_play`
+//! hands lines that are generated to the same player, and counts in its transcript. `laws` states
 //! what the definitions say of one another: each answer is a plain session's, and the decided transactions are a serial history of plain tables.
 #![tactic(auto)]
 
@@ -14,7 +16,7 @@ ghost use Rattle.std.specs.Prelude.{◌≡◌, ◌↔◌, ◌⊎◌, None, map, 
 ghost use Rattle.my_wire.specs.Counts.{HasRisen};
 ghost use Rattle.world_runs.specs.History.{IsPlain};
 ghost use Rattle.spider_cli.specs.Outcome.{code_of, text_of};
-ghost use Rattle.spider_cli.specs.Top.{Play, Wire, form_of, word_form, path_of, Does, DoesOn, Runs, Says, IsFrontOf, IsWhole, IsStopped, IsRefused, RunsOn, Checked};
+ghost use Rattle.spider_cli.specs.Top.{Play, Wire, form_of, word_form, numbers_form, path_of, Does, DoesOn, Runs, Says, IsFrontOf, IsWhole, IsStopped, IsRefused, RunsOn, Checked, Worked};
 ghost use Rattle.catalog.specs.Conf.{IsCatalog};
 ghost use Rattle.catalog.specs.Views.{View};
 ghost use Rattle.plain_sessions.specs.Held.{CanBeServed};
@@ -25,9 +27,11 @@ ghost use Rattle.world_runs.specs.declared.schedule.LineRule.{LineRule};
 mod conf;
 mod end_text;
 mod laws;
+mod numbers;
 mod outcome;
 mod schedule;
 mod transcript;
+mod workload_play;
 mod world;
 mod world_play;
 
@@ -37,10 +41,12 @@ use conf_check::links_text;
 use laws::is_plain;
 use list_types::Text;
 use my_wire::{End, Files, FilesFault, Sink, Source, Status, write_all};
+use numbers::number_within;
 use outcome::{Object, Outcome, say, status_code};
 use phase_law::configurations_can_be_served;
 use std::alloc::Global;
 use wire_play::{WireEnd, wire};
+use workload_play::play_workload;
 use world_play::{PlayEnd, play};
 
 /// What the words ask for, with the path of the configuration.
@@ -52,7 +58,16 @@ enum Form<'a> {
     Play(&'a str),
     /// To serve one session of packets, between the input and the output.
     Wire(&'a str),
+    /// To play so many statements that a seed generates.
+    Workload {
+        path: &'a str,
+        seed: u64,
+        count: u64,
+    },
 }
+
+/// A workload has no more statements.
+const MOST_STATEMENTS: u64 = 100_000;
 
 /// The form of a first word and a path.
 fn word_form<'a>(word: &str, path: &'a str) -> Option<Form<'a>>
@@ -69,12 +84,33 @@ fn word_form<'a>(word: &str, path: &'a str) -> Option<Form<'a>>
     }
 }
 
+/// The form of a first word, a path and two numbers.
+fn numbers_form<'a>(word: &str, path: &'a str, seed: &str, count: &str) -> Option<Form<'a>>
+    ensures { option_map form_view result ≡ numbers_form word.now path.now seed.now count.now }
+{
+    if path.as_bytes().starts_with(b"-") {
+        return None;
+    }
+    if word != "workload" {
+        return None;
+    }
+    let seed = number_within(0, u64::MAX, seed)?;
+    let count = number_within(1, MOST_STATEMENTS, count)?;
+    Some(Form::Workload { path, seed, count })
+}
+
 /// The form of the words, where they have one.
 fn form_of(words: &[String]) -> Option<Form<'_>>
     ensures { option_map form_view result ≡ form_of (map string_bytes words.now) }
 {
     match words {
         [word, path] => word_form(word.as_str(), path.as_str()),
+        [word, path, seed, count] => numbers_form(
+            word.as_str(),
+            path.as_str(),
+            seed.as_str(),
+            count.as_str(),
+        ),
         _ => None,
     }
 }
@@ -161,6 +197,17 @@ fn check_on<O: Sink>(alloc: Global, conf: &[u8], out: &mut O) -> Outcome
     }
 }
 
+/// Plays generated statements on a configuration.
+fn workload_on<O: Sink>(alloc: Global, conf: &[u8], seed: u64, count: u64, out: &mut O) -> Outcome
+    ensures { Worked O.takes O.faults out.old out.new conf.now seed count result }
+{
+    configurations_can_be_served();
+    match read_catalog(alloc, conf) {
+        Ok(catalog) => play_workload(alloc, &catalog, seed, count, out),
+        Err(fault) => refused(alloc, &fault),
+    }
+}
+
 /// Does what the form asks for, on a configuration.
 fn carry_out<I: Source, O: Sink>(
     alloc: Global,
@@ -175,6 +222,11 @@ fn carry_out<I: Source, O: Sink>(
         Form::Check(_path) => check_on(alloc, conf, out),
         Form::Play(_path) => play_on(alloc, conf, input, out),
         Form::Wire(_path) => wire_on(alloc, conf, input, out),
+        Form::Workload {
+            path: _path,
+            seed,
+            count,
+        } => workload_on(alloc, conf, seed, count, out),
     }
 }
 
@@ -186,6 +238,11 @@ fn path_of<'a>(form: Form<'a>) -> &'a str
         Form::Check(path) => path,
         Form::Play(path) => path,
         Form::Wire(path) => path,
+        Form::Workload {
+            path,
+            seed: _seed,
+            count: _count,
+        } => path,
     }
 }
 
@@ -226,11 +283,12 @@ pub fn spider_local<F: Files, I: Source, O: Sink, E: Sink>(
     out: &mut O,
     err: &mut E,
 ) -> Status
-    // What is written is always a front: of a catalog's links, of the transcript of the schedule that was read, or of what the client of a session of
-    // packets is sent for its bytes, in which the statements' answers are a plain session's. Else nothing was read or written.
+    // What is written is always a front: of a catalog's links, of the transcript of the schedule that was read, of what is told of the transcript of
+    // generated statements, or of what the client of a session of packets is sent for its bytes, in which the statements' answers are a plain session's.
+    // Else nothing was read or written.
     ensures prefix { IsFrontOf F.holds F.faults I.gives I.has_ended I.faults O.takes O.faults (map string_bytes words.now) files.old files.new input.old input.new out.old out.new }
 
-    // Status 0: it is the whole, of a schedule that was read to its end, or of a session to its end.
+    // Status 0: it is the whole, of a schedule that was read to its end or is generated, or of a session to its end.
     ensures done { result.code ≡ 0 → IsWhole F.holds F.faults I.gives I.has_ended I.faults O.takes O.faults (map string_bytes words.now) files.old files.new input.old input.new out.old out.new }
 
     // Status 1 comes only where a count rose, 4 only where the file that the words name is refused by a rule, and 5 only at the first line that breaks

@@ -9,7 +9,7 @@ use list_types::Text;
 use my_wire::{Failed, Sink, write_all, write_three};
 use world_runs::LineRule;
 
-/// Every form of the words, those that aren't built yet too.
+/// Every form of the words.
 const USAGE: &[u8] =
     b"usage: spider_local check CONF / play CONF / wire CONF / workload CONF SEED N\n";
 

@@ -8,11 +8,11 @@ ghost use Rattle.spider_cli.specs.Shown.{shown};
 ghost use Rattle.world_runs.specs.World.{new_world};
 
 use crate::end_text::push_end;
-use crate::schedule::cut_at;
 use crate::world::{Stage, StepFault, World};
 use catalog::Catalog;
 use my_wire::{Sink, Source, write_all};
 use std::alloc::{AllocError, AllocFailed, Global};
+use workload::cut_at;
 use world_runs::LineRule;
 
 /// How a play ended.
@@ -81,7 +81,7 @@ impl Player {
     ghost use Rattle.spider_cli.specs.Shown.{shown};
 
     /// A player that has played nothing on this world. It takes no memory.
-    fn new(alloc: Global, world: World) -> Player
+    pub fn new(alloc: Global, world: World) -> Player
         requires { shown world ≡ new_world world.front.catalog }
         ensures ready { IsReady result }
         ensures fresh { (rest : List ℕ) → told_by result rest ≡ transcript world.front.catalog rest }
@@ -158,7 +158,7 @@ impl Player {
     }
 
     /// Takes the next piece, however the schedule is cut.
-    fn feed(&mut self, alloc: Global, piece: &[u8], text: &mut Vec<u8>) -> Result<(), PlayFault>
+    pub fn feed(&mut self, alloc: Global, piece: &[u8], text: &mut Vec<u8>) -> Result<(), PlayFault>
         requires { IsReady self.old }
         ensures ready { OnOk result (IsReady self.new) }
         ensures told { OnOk result ((rest : List ℕ) →
@@ -197,7 +197,7 @@ impl Player {
     }
 
     /// The schedule is at its end.
-    fn finish(&mut self, alloc: Global, text: &mut Vec<u8>) -> Result<(), PlayFault>
+    pub fn finish(&mut self, alloc: Global, text: &mut Vec<u8>) -> Result<(), PlayFault>
         requires { IsReady self.old }
         ensures told { OnOk result (record { text = text.new.items; refusal = None } ≡ with_front text.old.items (told_by self.old [])) }
         ensures refused { (line : ℕ) (rule : LineRule) → result ≡ Err (PlayFault.Refused line rule) →

@@ -1,6 +1,6 @@
 use Rattle.std.proofs.Common.{◌≡◌, take, drop}
 use Rattle.world_runs.specs.Schedule.{cut_at, onto_line}
-use Rattle.spider_cli.proofs.schedule.cut_at.Given as goal
+use Rattle.workload.proofs.cutting.cut_at.Given as goal
 
 -- what is passed, and the first end in the rest after it
 abbrev pub invariant-loop-i : goal.invariant-loop-i

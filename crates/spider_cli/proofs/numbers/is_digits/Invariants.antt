@@ -1,0 +1,7 @@
+use Rattle.std.proofs.Common.{◌≡◌, drop}
+use Rattle.std.specs.Str.{all_ascii_digits}
+use Rattle.spider_cli.proofs.numbers.is_digits.Given as goal
+
+-- those that are passed are digits
+abbrev pub invariant-loop-byte : goal.invariant-loop-byte
+invariant-loop-byte l = all_ascii_digits (drop l.byte-index l.word) ≡ all_ascii_digits l.word
