@@ -203,9 +203,13 @@ fn follows(alloc: Global, job: &mut Job, steps: &[Step]) -> Result<bool, Fail> {
 }
 
 /// The statement begins with two STARTs, and then each answer leads to what is wanted.
+fn goes_on(alloc: Global, job: &mut Job, steps: &[Step]) -> Result<bool, Fail> {
+    Ok(begins(alloc, job)? && follows(alloc, job, steps)?)
+}
+
 pub(crate) fn runs(alloc: Global, deed: Deed, steps: &[Step]) -> Result<bool, Fail> {
     let mut job = job(alloc, deed)?;
-    Ok(begins(alloc, &mut job)? && follows(alloc, &mut job, steps)?)
+    goes_on(alloc, &mut job, steps)
 }
 
 const SELECTED: [Step; 11] = [
