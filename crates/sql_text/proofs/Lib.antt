@@ -4,6 +4,7 @@ pub mod Fields
 pub mod Choices
 pub mod Nested
 pub mod ReadRules
+pub mod SelectRules
 pub mod ExprRules
 pub mod StatementRules
 pub mod Wholes
@@ -23,6 +24,7 @@ pub mod RespelledConds
 pub mod RespelledExprs
 pub mod RespelledAggregates
 pub mod RespelledOrders
+pub mod RespelledJoins
 pub mod RespelledStatements
 pub mod Printed
 pub mod LinkWords

@@ -1,28 +1,30 @@
 -- What is printed of a statement has tokens that spell it.
-use Rattle.std.proofs.Common.{◌≡◌, ℕ, map, List, [], ◌∷◌, ◌++◌, true, false, Some, None, refl, sym, ap, subst, ◌∙◌, append_assoc, inl, inr, codes}
+use Rattle.std.proofs.Common.{◌≡◌, ℕ, zero, suc, map, List, [], ◌∷◌, ◌++◌, true, false, Some, None, refl, ap, subst, ◌∙◌, inl, inr, codes}
 use Rattle.std.specs.List.{flat_map}
 use Rattle.sql_values.specs.declared.places.LockMode.TheVariants as locks
 use Rattle.sql_text.specs.declared.statement.Statement.{Statement}
 use Rattle.sql_text.specs.declared.statement.Statement.TheVariants as statements
 use Rattle.sql_text.specs.declared.statement.SelectItems.TheVariants as items
 use Rattle.sql_text.specs.declared.statement.Item.{Item}
-use Rattle.sql_text.specs.declared.statement.Tab.{Tab}
+use Rattle.sql_text.specs.declared.statement.Admin.{Admin}
+use Rattle.sql_text.specs.declared.statement.Admin.TheVariants as admins
 use Rattle.sql_text.specs.declared.statement.Assignment.{Assignment}
-use Rattle.sql_text.specs.declared.token.Fixed.TheVariants.{Delete, For, From, In, Insert, Into, Lock, Mode, Select, Set, Share, Update, Values, Where, Open, Close, Comma, Star, Semicolon, Equal}
+use Rattle.sql_text.specs.declared.token.Fixed.TheVariants.{Database, Databases, Delete, For, From, In, Insert, Into, Lock, Mode, Select, Set, Share, Show, Tables, Update, Values, VersionComment, Where, Open, Close, Comma, Star, Semicolon, Equal}
 use Rattle.sql_text.specs.declared.token.Token.{Token}
 use Rattle.sql_text.specs.declared.token.Token.TheVariants as tokens
 use Rattle.sql_text.specs.Rules.{is, ◌▷◌, series, at_most_further, parenthesized, optional}
-use Rattle.sql_text.specs.Grammar.{name, literal, alias, cond as cond_rule, expr, tuple, column_list, insert, item, aggregate_item, select_items, where_cond, lock, locked, select, assignment, update, delete, body, statement}
-use Rattle.sql_text.specs.Printing.{literal_text, name_text, joined_text, column_text, literals_text, cond_text, alias_text, item_text, aggregate_item_text, items_text, where_text, columns_text, tuple_text, expr_text, order_text, limit_text, lock_text, locked_text, assignment_text, printed}
+use Rattle.sql_text.specs.Grammar.{name, literal, alias, comment_limit, of_server, shown, show, cond as cond_rule, expr, tuple, column_list, insert, item, aggregate_item, select_items, where_cond, lock, locked, select, assignment, update, delete, body, statement}
+use Rattle.sql_text.specs.Printing.{literal_text, name_text, joined_text, column_text, literals_text, cond_text, alias_text, item_text, aggregate_item_text, items_text, source_text, where_text, columns_text, tuple_text, expr_text, order_text, limit_text, lock_text, locked_text, assignment_text, printed}
 use Rattle.sql_text.proofs.Written.{Atom, Suffix, prefix_of, nothing_behind, atom_suffix, prefix_atom, separator_atom, suffix_suffix, separator_alone}
 use Rattle.sql_text.proofs.Lexemes as lexemes
 use Rattle.sql_text.proofs.Sound.{Sounds}
-use Rattle.sql_text.proofs.Told.{Respells, first_sound, second_sound, mapped, unmapped, retold}
+use Rattle.sql_text.proofs.Told.{Told, Respells, first_sound, second_sound, mapped, unmapped, retold}
 use Rattle.sql_text.proofs.Respelled.{alias_told, column_told, enclosed_told, few_told, literal_told, name_told, series_told, table_told}
 use Rattle.sql_text.proofs.RespelledConds.{cond_told}
 use Rattle.sql_text.proofs.RespelledExprs.{expr_told}
 use Rattle.sql_text.proofs.RespelledAggregates.{aggregate_item_told}
 use Rattle.sql_text.proofs.RespelledOrders.{order_told, limit_told}
+use Rattle.sql_text.proofs.RespelledJoins.{source_told}
 
 module _ (change : Token → Token) (fixes : lexemes.Fixes change) where
   -- ---- statements
@@ -169,60 +171,99 @@ module _ (change : Token → Token) (fixes : lexemes.Fixes change) where
       retold (Suffix change) locked locked_text m (Some u.0) u.1 (a.0, inl (mapped lock (λ k. is (Some k)) u.0 (Some u.0) a.0 a.1 (refl, refl)), a.2)
   locked_told m ts (inr h) sound = retold (Suffix change) locked locked_text m None h.0 ([], inr (refl, refl), (nothing_behind change))
 
+  -- ---- SELECT
+
+  version_told : (depth : ℕ) → Told (Atom change) (select depth) (statements.Admin admins.VersionComment) (printed (statements.Admin admins.VersionComment))
+  unfolding printed
+  version_told depth = (
+    tokens.Fixed Select ∷ tokens.Fixed VersionComment ∷ [],
+    (
+      tokens.Fixed VersionComment ∷ [],
+      refl,
+      inl (mapped (of_server depth) (λ a. is (statements.Admin a)) admins.VersionComment (statements.Admin admins.VersionComment) (tokens.Fixed VersionComment ∷ []) (inl ([], refl, inr (refl, refl))) (refl, refl)),
+    ),
+    lexemes.version_comment change fixes,
+  )
+
+  -- its parentheses are an opening
+  database_told : (depth : ℕ) → Told (Atom change) (select (suc depth)) (statements.Admin admins.Database) (printed (statements.Admin admins.Database))
+  unfolding printed
+  database_told depth =
+      let call : List Token = tokens.Fixed Database ∷ tokens.Fixed Open ∷ tokens.Fixed Close ∷ [] in
+      let enclosed : parenthesized (is admins.Database) (suc depth) admins.Database (tokens.Fixed Open ∷ tokens.Fixed Close ∷ []) =
+      (tokens.Fixed Close ∷ [], refl, (admins.Database, record { front = []; rest = tokens.Fixed Close ∷ []; whole = refl; first = (refl, refl); second = ([], refl, (refl, refl)) })) in (
+        tokens.Fixed Select ∷ call,
+        (
+          call,
+          refl,
+          inl (mapped (of_server (suc depth)) (λ a. is (statements.Admin a)) admins.Database (statements.Admin admins.Database) call (inr (tokens.Fixed Open ∷ tokens.Fixed Close ∷ [], refl, enclosed)) (refl, refl)),
+        ),
+        lexemes.database_call change fixes,
+      )
+
+  comment_is : (a : Admin) (ts : List Token) → comment_limit a ts → a ≡ admins.VersionComment
+  comment_is a ts (inl (rest, e, (n, s))) = s.second.0
+  comment_is a ts (inr h) = h.0
+
+  admin_told : (depth : ℕ) (x : Statement) (a : Admin) (ts : List Token) → x ≡ statements.Admin a → of_server depth a ts → Told (Atom change) (select depth) x (printed x)
+  admin_told depth x a ts e (inl (rest, f, h)) =
+      retold (Atom change) (select depth) printed x (statements.Admin admins.VersionComment) (e ∙ ap statements.Admin (comment_is a rest h)) (version_told depth)
+  admin_told zero x a ts e (inr (rest, f, h)) = absurd h
+  admin_told (suc depth) x a ts e (inr (rest, f, (more, g, (y, s)))) =
+      let named : a ≡ admins.Database = s.second.2.0 ∙ s.first.0 in
+      retold (Atom change) (select (suc depth)) printed x (statements.Admin admins.Database) (e ∙ ap statements.Admin named) (database_told depth)
+
   pub select_told : (depth : ℕ) → Respells (Atom change) (select depth) printed
   unfolding printed
-  select_told depth x ts (rest, e, (i, s)) sound =
+  select_told depth x ts (rest, e, inl h) sound =
+      let u = unmapped (of_server depth) statements.Admin x rest h in
+      admin_told depth x u.0 rest u.1 u.2
+  select_told depth x ts (rest, e, inr (i, s)) sound =
       let inside : Sounds rest = (let k : Sounds (tokens.Fixed Select ∷ rest) = subst Sounds e sound in k.1) in
       let f = s.second in
       let after_from : Sounds f.0 = (let k : Sounds (tokens.Fixed From ∷ f.0) = subst Sounds f.1 (second_sound s inside) in k.1) in
       let t = f.2 in
       let w = t.1.second in
-      let after_tab : Sounds t.1.rest = second_sound t.1 after_from in
+      let after_source : Sounds t.1.rest = second_sound t.1 after_from in
       let o = w.1.second in
-      let after_where : Sounds w.1.rest = second_sound w.1 after_tab in
+      let after_where : Sounds w.1.rest = second_sound w.1 after_source in
       let l = o.1.second in
       let after_order : Sounds o.1.rest = second_sound o.1 after_where in
-      let u = unmapped locked (λ m. statements.Select (record { items = i; tab = t.0; cond = w.0; order = o.0; limit = l.0; lock = m })) x l.1.rest l.1.second in
-      let n = t.1.first in
-      let k = unmapped alias (λ a. record { table = n.0; alias = a }) t.0 n.1.rest n.1.second in
-      let in_tab : Sounds t.1.front = first_sound t.1 after_from in
+      let u = unmapped locked (λ m. statements.Select (record { items = i; tab = t.0.0; join = t.0.1; cond = w.0; order = o.0; limit = l.0; lock = m })) x l.1.rest l.1.second in
       let a = items_told depth i s.front s.first (first_sound s inside) in
-      let b = (table_told change fixes) n.0 n.1.front n.1.first (first_sound n.1 in_tab) in
-      let c = (alias_told change fixes) k.0 n.1.rest k.2 (second_sound n.1 in_tab) in
-      let d = where_told depth w.0 w.1.front w.1.first (first_sound w.1 after_tab) in
+      let b = (source_told change fixes) depth t.0 t.1.front t.1.first (first_sound t.1 after_from) in
+      let d = where_told depth w.0 w.1.front w.1.first (first_sound w.1 after_source) in
       let p = (order_told change fixes) i o.0 o.1.front o.1.first (first_sound o.1 after_where) in
       let q = (limit_told change fixes) i l.0 l.1.front l.1.first (first_sound l.1 after_order) in
       let m = locked_told u.0 l.1.rest u.2 (second_sound l.1 after_order) in
-      let from : Tab = record { table = n.0; alias = k.0 } in
-      let value : Statement = statements.Select (record { items = i; tab = from; cond = w.0; order = o.0; limit = l.0; lock = u.0 }) in
-      let same : x ≡ value = u.1 ∙ ap (λ (v : Tab). statements.Select (record { items = i; tab = v; cond = w.0; order = o.0; limit = l.0; lock = u.0 })) k.1 in
-      let source : List Token = b.0 ++ c.0 in
+      let value : Statement = statements.Select (record { items = i; tab = t.0.0; join = t.0.1; cond = w.0; order = o.0; limit = l.0; lock = u.0 }) in
       let last : List Token = p.0 ++ (q.0 ++ m.0) in
       let end : List Token = d.0 ++ last in
+      let from : List Token = b.0 ++ end in
       let last_text : List ℕ = order_text o.0 ++ (limit_text l.0 ++ locked_text u.0) in
-      let behind : List ℕ = alias_text k.0 ++ (where_text w.0 ++ last_text) in
-      retold (Atom change) (select depth) printed x value same (
-        tokens.Fixed Select ∷ (a.0 ++ (tokens.Fixed From ∷ (source ++ end))),
+      let behind : List ℕ = where_text w.0 ++ last_text in
+      retold (Atom change) (select depth) printed x value u.1 (
+        tokens.Fixed Select ∷ (a.0 ++ (tokens.Fixed From ∷ from)),
         (
-          a.0 ++ (tokens.Fixed From ∷ (source ++ end)),
+          a.0 ++ (tokens.Fixed From ∷ from),
           refl,
-          (
+          inr (
             i,
             record {
               front = a.0;
-              rest = tokens.Fixed From ∷ (source ++ end);
+              rest = tokens.Fixed From ∷ from;
               whole = refl;
               first = a.1;
               second = (
-                source ++ end,
+                from,
                 refl,
                 (
-                  from,
+                  t.0,
                   record {
-                    front = source;
+                    front = b.0;
                     rest = end;
                     whole = refl;
-                    first = (n.0, record { front = b.0; rest = c.0; whole = refl; first = b.1; second = mapped alias (λ v. is (record { table = n.0; alias = v })) k.0 from c.0 c.1 (refl, refl) });
+                    first = b.1;
                     second = (
                       w.0,
                       record {
@@ -244,7 +285,7 @@ module _ (change : Token → Token) (fixes : lexemes.Fixes change) where
                                 rest = m.0;
                                 whole = refl;
                                 first = q.1;
-                                second = mapped locked (λ v. is (statements.Select (record { items = i; tab = from; cond = w.0; order = o.0; limit = l.0; lock = v }))) u.0 value m.0 m.1 (refl, refl);
+                                second = mapped locked (λ v. is (statements.Select (record { items = i; tab = t.0.0; join = t.0.1; cond = w.0; order = o.0; limit = l.0; lock = v }))) u.0 value m.0 m.1 (refl, refl);
                               },
                             );
                           },
@@ -257,16 +298,31 @@ module _ (change : Token → Token) (fixes : lexemes.Fixes change) where
             },
           ),
         ),
-        subst (λ (v : List Token). (Atom change) (codes "SELECT " ++ (items_text i ++ (codes " FROM " ++ (name_text n.0 ++ behind)))) (tokens.Fixed Select ∷ (a.0 ++ (tokens.Fixed From ∷ v)))) (sym (append_assoc b.0 c.0 end))
-            ((prefix_atom change) (codes "SELECT ") (items_text i ++ (codes " FROM " ++ (name_text n.0 ++ behind))) (tokens.Fixed Select ∷ []) (a.0 ++ (tokens.Fixed From ∷ (b.0 ++ (c.0 ++ end)))) (lexemes.select_prefix change fixes)
-            ((atom_suffix change) (items_text i) (codes " FROM " ++ (name_text n.0 ++ behind)) a.0 (tokens.Fixed From ∷ (b.0 ++ (c.0 ++ end))) a.2
-            ((separator_atom change) (codes " FROM ") (name_text n.0 ++ behind) (tokens.Fixed From ∷ []) (b.0 ++ (c.0 ++ end)) (lexemes.from_text change fixes)
-            ((atom_suffix change) (name_text n.0) behind b.0 (c.0 ++ end) b.2
-            ((suffix_suffix change) (alias_text k.0) (where_text w.0 ++ last_text) c.0 end c.2
+        (prefix_atom change) (codes "SELECT ") (items_text i ++ (codes " FROM " ++ (source_text t.0 ++ behind))) (tokens.Fixed Select ∷ []) (a.0 ++ (tokens.Fixed From ∷ from)) (lexemes.select_prefix change fixes)
+            ((atom_suffix change) (items_text i) (codes " FROM " ++ (source_text t.0 ++ behind)) a.0 (tokens.Fixed From ∷ from) a.2
+            ((separator_atom change) (codes " FROM ") (source_text t.0 ++ behind) (tokens.Fixed From ∷ []) from (lexemes.from_text change fixes)
+            ((atom_suffix change) (source_text t.0) behind b.0 end b.2
             ((suffix_suffix change) (where_text w.0) last_text d.0 last d.2
             ((suffix_suffix change) (order_text o.0) (limit_text l.0 ++ locked_text u.0) p.0 (q.0 ++ m.0) p.2
-            ((suffix_suffix change) (limit_text l.0) (locked_text u.0) q.0 m.0 q.2 m.2)))))))),
+            ((suffix_suffix change) (limit_text l.0) (locked_text u.0) q.0 m.0 q.2 m.2)))))),
       )
+
+  pub show_told : Respells (Atom change) show printed
+  unfolding printed
+  show_told x ts (rest, e, h) sound =
+      let u = unmapped shown statements.Admin x rest h in
+      elim u.2 [
+        | inl k ↦ retold (Atom change) show printed x (statements.Admin admins.ShowTables) (u.1 ∙ ap statements.Admin k.2.0) (
+          tokens.Fixed Show ∷ tokens.Fixed Tables ∷ [],
+          (tokens.Fixed Tables ∷ [], refl, mapped shown (λ a. is (statements.Admin a)) admins.ShowTables (statements.Admin admins.ShowTables) (tokens.Fixed Tables ∷ []) (inl ([], refl, (refl, refl))) (refl, refl)),
+          lexemes.show_tables change fixes,
+        )
+        | inr k ↦ retold (Atom change) show printed x (statements.Admin admins.ShowDatabases) (u.1 ∙ ap statements.Admin k.2.0) (
+          tokens.Fixed Show ∷ tokens.Fixed Databases ∷ [],
+          (tokens.Fixed Databases ∷ [], refl, mapped shown (λ a. is (statements.Admin a)) admins.ShowDatabases (statements.Admin admins.ShowDatabases) (tokens.Fixed Databases ∷ []) (inr ([], refl, (refl, refl))) (refl, refl)),
+          lexemes.show_databases change fixes,
+        )
+      ]
 
   assignment_told : (depth : ℕ) → Respells (Atom change) (assignment depth) assignment_text
   assignment_told depth x ts (n, s) sound =
@@ -358,8 +414,9 @@ module _ (change : Token → Token) (fixes : lexemes.Fixes change) where
   body_told : (depth : ℕ) → Respells (Atom change) (body depth) printed
   body_told depth s ts (inl h) sound = let a = insert_told depth s ts h sound in (a.0, inl a.1, a.2)
   body_told depth s ts (inr (inl h)) sound = let a = select_told depth s ts h sound in (a.0, inr (inl a.1), a.2)
-  body_told depth s ts (inr (inr (inl h))) sound = let a = update_told depth s ts h sound in (a.0, inr (inr (inl a.1)), a.2)
-  body_told depth s ts (inr (inr (inr h))) sound = let a = delete_told depth s ts h sound in (a.0, inr (inr (inr a.1)), a.2)
+  body_told depth s ts (inr (inr (inl h))) sound = let a = show_told s ts h sound in (a.0, inr (inr (inl a.1)), a.2)
+  body_told depth s ts (inr (inr (inr (inl h)))) sound = let a = update_told depth s ts h sound in (a.0, inr (inr (inr (inl a.1))), a.2)
+  body_told depth s ts (inr (inr (inr (inr h)))) sound = let a = delete_told depth s ts h sound in (a.0, inr (inr (inr (inr a.1))), a.2)
 
   pub statement_told : (depth : ℕ) → Respells (Atom change) (statement depth) printed
   statement_told depth x ts (s, q) sound =

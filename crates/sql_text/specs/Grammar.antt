@@ -1,7 +1,8 @@
 -- The grammar of statements, rule by rule.
-use Rattle.std.specs.Prelude.{if◌then◌else◌, ℕ, ℤ, pos, negsuc, zero, suc, ◌^◌, Bool, true, false, List, [], ◌∷◌, Option, Some, None, codes}
+use Rattle.std.specs.Prelude.{if◌then◌else◌, ◌==◌, ℕ, ℤ, pos, negsuc, zero, suc, ◌^◌, Bool, true, false, List, [], ◌∷◌, Option, Some, None, codes}
 use Rattle.std.specs.Prelude.{nat_eq, nat_lt}
 use Rattle.std.specs.Cmp.Lexicographic.{pointwise}
+use Rattle.std.specs.Option.{unwrap_or}
 use Rattle.sql_values.specs.declared.literal.Literal.{Literal}
 use Rattle.sql_values.specs.declared.literal.Literal.TheVariants as literals
 use Rattle.sql_values.specs.declared.tree.ColumnName.{ColumnName}
@@ -25,10 +26,13 @@ use Rattle.sql_text.specs.declared.statement.AggregateItem.{AggregateItem}
 use Rattle.sql_text.specs.declared.statement.SortItem.{SortItem}
 use Rattle.sql_text.specs.declared.statement.Limit.{Limit as RowLimit}
 use Rattle.sql_text.specs.declared.statement.Tab.{Tab}
+use Rattle.sql_text.specs.declared.statement.Join.{Join as Joined}
+use Rattle.sql_text.specs.declared.statement.Admin.{Admin}
+use Rattle.sql_text.specs.declared.statement.Admin.TheVariants as admins
 use Rattle.sql_text.specs.declared.statement.Assignment.{Assignment}
 use Rattle.sql_text.specs.declared.link.AggregateCall.{AggregateCall}
 use Rattle.sql_text.specs.declared.link.AggregateCall.TheVariants as calls
-use Rattle.sql_text.specs.declared.token.Fixed.TheVariants.{And, As, Asc, Between, By, Count, Delete, Desc, For, From, In, Insert, Into, Limit, Lock, Max, Min, Mode, Not, Null, Offset, Or, Order, Select, Set, Share, Sum, Update, Values, Where, Open, Close, Comma, Dot, Star, Plus, Minus, Semicolon, Equal, NotEqual, Less, AtMost, Greater, AtLeast}
+use Rattle.sql_text.specs.declared.token.Fixed.TheVariants.{And, As, Asc, Between, By, Count, Database, Databases, Delete, Desc, For, From, In, Inner, Insert, Into, Join, Limit, Lock, Max, Min, Mode, Not, Null, Offset, On, Or, Order, Select, Set, Share, Show, Sum, Tables, Update, Values, Where, VersionComment, Open, Close, Comma, Dot, Star, Plus, Minus, Semicolon, Equal, NotEqual, Less, AtMost, Greater, AtLeast}
 use Rattle.sql_text.specs.declared.token.Token.{Token}
 use Rattle.sql_text.specs.declared.token.Token.TheVariants as tokens
 use Rattle.sql_text.specs.Rules.{Rule, is, one, ◌⊳◌, ◌▷◌, ◌∣◌, optional, many, series, at_most_further, parenthesized}
@@ -70,6 +74,23 @@ count (negsuc n) = None
 abbrev pub count_of : Token → Option ℕ
 count_of (tokens.Digits n) = count n
 count_of _ = None
+
+-- the count 1
+abbrev pub one_row : ℤ → Option ℕ
+one_row (pos n) = if n == 1 then Some n else None
+one_row (negsuc n) = None
+
+abbrev pub one_row_of : Token → Option ℕ
+one_row_of (tokens.Digits n) = one_row n
+one_row_of _ = None
+
+-- a name that isn't this one
+abbrev pub other_name : List ℕ → Option (List ℕ) → Option (List ℕ)
+other_name n None = None
+other_name n (Some m) = if pointwise nat_eq m n then None else Some m
+
+abbrev pub other_name_of : List ℕ → Token → Option (List ℕ)
+other_name_of n t = other_name n (name_of t)
 
 -- the word `spider` as it is written
 abbrev pub is_spider : Token → Bool
@@ -234,6 +255,44 @@ select_items depth = (Star ⊳ is items.All) ∣ column_items ∣ aggregate_item
 abbrev pub tab : Rule Tab
 tab = table ▷ λ t. alias ▷ λ a. is (record { table = t; alias = a })
 
+-- the name by which a statement knows a table: its alias, where it has one, and then no other
+abbrev pub known_name : Tab → List ℕ
+known_name t = unwrap_or t.alias t.table
+
+-- [AS] name, where the name isn't this one
+abbrev pub other_alias : List ℕ → Rule (Option (List ℕ))
+other_alias n = (As ⊳ (one (other_name_of n) ▷ λ a. is (Some a))) ∣ (one (other_name_of n) ▷ λ a. is (Some a))
+
+-- the alias of a table with another name than this one
+abbrev pub free_alias : List ℕ → Rule (Option (List ℕ))
+free_alias n = (As ⊳ (one (other_name_of n) ▷ λ a. is (Some a))) ∣ (one (other_name_of n) ▷ λ a. is (Some a)) ∣ is None
+
+-- the alias of a table beside one that is known by the first name; it can't be missing where the table's own name is that one
+abbrev pub alias_beside : Bool → List ℕ → Rule (Option (List ℕ))
+alias_beside true n = other_alias n
+alias_beside false n = free_alias n
+
+-- tab, but known by another name than this one
+abbrev pub tab_beside : List ℕ → Rule Tab
+tab_beside n = table ▷ λ t. alias_beside (pointwise nat_eq t n) n ▷ λ a. is (record { table = t; alias = a })
+
+-- [ON cond]
+abbrev pub on_cond : ℕ → Rule (Option Cond)
+on_cond depth = (On ⊳ (cond depth ▷ λ c. is (Some c))) ∣ is None
+
+-- the second table, behind a comma
+abbrev pub listed_tab : List ℕ → Rule (Option Joined)
+listed_tab n = tab_beside n ▷ λ t. is (Some (record { tab = t; on = None }))
+
+-- the second table and its condition, behind JOIN
+abbrev pub joined_tab : List ℕ → ℕ → Rule (Option Joined)
+joined_tab n depth = tab_beside n ▷ λ t. on_cond depth ▷ λ c. is (Some (record { tab = t; on = c }))
+
+-- what stands behind a first table that is known by this name
+-- [("," tab) | ([INNER] JOIN tab [ON cond])]
+abbrev pub join : List ℕ → ℕ → Rule (Option Joined)
+join n depth = (Comma ⊳ listed_tab n) ∣ (Inner ⊳ (Join ⊳ joined_tab n depth)) ∣ (Join ⊳ joined_tab n depth) ∣ is None
+
 abbrev pub where_cond : ℕ → Rule (Option Cond)
 where_cond depth = (Where ⊳ (cond depth ▷ λ c. is (Some c))) ∣ is None
 
@@ -277,11 +336,34 @@ lock = (Lock ⊳ (In ⊳ (Share ⊳ (Mode ⊳ is locks.Shared)))) ∣ (For ⊳ (
 abbrev pub locked : Rule (Option LockMode)
 locked = (lock ▷ λ m. is (Some m)) ∣ is None
 
--- select = SELECT items FROM tab [WHERE cond] order limit [lock]
+-- source = tab [("," tab) | ([INNER] JOIN tab [ON cond])]
+abbrev pub source : ℕ → Rule (Tab × Option Joined)
+source depth = tab ▷ λ t. join (known_name t) depth ▷ λ j. is (t, j)
+
+-- items FROM source [WHERE cond] order limit [lock]
+abbrev pub rows : ℕ → Rule Statement
+rows depth =
+    select_items depth ▷ λ i. From ⊳ (source depth ▷ λ s. where_cond depth ▷ λ c. order i ▷ λ o. limit i ▷ λ l. locked ▷ λ m.
+    is (statements.Select (record { items = i; tab = s.0; join = s.1; cond = c; order = o; limit = l; lock = m })))
+
+-- [LIMIT 1], which leaves nothing behind
+abbrev pub comment_limit : Rule Admin
+comment_limit = (Limit ⊳ (one one_row_of ▷ λ _. is admins.VersionComment)) ∣ is admins.VersionComment
+
+-- @@version_comment [LIMIT 1] | DATABASE "(" ")"
+abbrev pub of_server : ℕ → Rule Admin
+of_server depth = (VersionComment ⊳ comment_limit) ∣ (Database ⊳ parenthesized (is admins.Database) depth)
+
+-- select = SELECT (@@version_comment [LIMIT 1] | DATABASE "(" ")" | items FROM source [WHERE cond] order limit [lock])
 abbrev pub select : ℕ → Rule Statement
-select depth =
-    Select ⊳ (select_items depth ▷ λ i. From ⊳ (tab ▷ λ t. where_cond depth ▷ λ c. order i ▷ λ o. limit i ▷ λ l. locked ▷ λ m.
-    is (statements.Select (record { items = i; tab = t; cond = c; order = o; limit = l; lock = m }))))
+select depth = Select ⊳ ((of_server depth ▷ λ a. is (statements.Admin a)) ∣ rows depth)
+
+abbrev pub shown : Rule Admin
+shown = (Tables ⊳ is admins.ShowTables) ∣ (Databases ⊳ is admins.ShowDatabases)
+
+-- show = SHOW (TABLES | DATABASES)
+abbrev pub show : Rule Statement
+show = Show ⊳ (shown ▷ λ a. is (statements.Admin a))
 
 -- name "=" expr
 abbrev pub assignment : ℕ → Rule Assignment
@@ -298,9 +380,9 @@ abbrev pub delete : ℕ → Rule Statement
 delete depth = Delete ⊳ (From ⊳ (table ▷ λ t. where_cond depth ▷ λ c. is (statements.Delete (record { table = t; cond = c }))))
 
 abbrev pub body : ℕ → Rule Statement
-body depth = insert depth ∣ select depth ∣ update depth ∣ delete depth
+body depth = insert depth ∣ select depth ∣ show ∣ update depth ∣ delete depth
 
--- statement = (insert | select | update | delete) [";"]
+-- statement = (insert | select | show | update | delete) [";"]
 abbrev pub statement : ℕ → Rule Statement
 statement depth = body depth ▷ λ s. optional Semicolon ▷ λ _. is s
 

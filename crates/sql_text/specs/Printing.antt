@@ -26,6 +26,10 @@ use Rattle.sql_text.specs.declared.statement.AggregateItem.{AggregateItem}
 use Rattle.sql_text.specs.declared.statement.SortItem.{SortItem}
 use Rattle.sql_text.specs.declared.statement.Limit.{Limit}
 use Rattle.sql_text.specs.declared.statement.Assignment.{Assignment}
+use Rattle.sql_text.specs.declared.statement.Tab.{Tab}
+use Rattle.sql_text.specs.declared.statement.Join.{Join}
+use Rattle.sql_text.specs.declared.statement.Admin.{Admin}
+use Rattle.sql_text.specs.declared.statement.Admin.TheVariants as admins
 use Rattle.sql_text.specs.declared.link.AggregateCall.{AggregateCall}
 use Rattle.sql_text.specs.declared.link.AggregateCall.TheVariants as calls
 
@@ -171,6 +175,26 @@ abbrev pub where_text : Option Cond → List ℕ
 where_text None = []
 where_text (Some c) = codes " WHERE " ++ cond_text c
 
+abbrev pub tab_text : Tab → List ℕ
+tab_text t = name_text t.table ++ alias_text t.alias
+
+abbrev pub on_text : Option Cond → List ℕ
+on_text None = []
+on_text (Some c) = codes " ON " ++ cond_text c
+
+-- what stands between the tables of a join, with a condition behind ON or without
+abbrev pub between_tabs : Option Cond → List ℕ
+between_tabs None = codes ", "
+between_tabs (Some c) = codes " JOIN "
+
+abbrev pub join_text : Option Join → List ℕ
+join_text None = []
+join_text (Some j) = between_tabs j.on ++ (tab_text j.tab ++ on_text j.on)
+
+-- the tables of a SELECT
+abbrev pub source_text : Tab × Option Join → List ℕ
+source_text s = tab_text s.0 ++ join_text s.1
+
 abbrev pub columns_text : Option (List (List ℕ)) → List ℕ
 columns_text None = []
 columns_text (Some l) = codes " (" ++ (joined_text (codes ", ") (map name_text l) ++ codes ")")
@@ -209,9 +233,16 @@ locked_text (Some m) = lock_text m
 abbrev pub assignment_text : Assignment → List ℕ
 assignment_text a = name_text a.column ++ (codes " = " ++ expr_text a.value)
 
+abbrev pub admin_text : Admin → List ℕ
+admin_text admins.ShowTables = codes "SHOW TABLES"
+admin_text admins.ShowDatabases = codes "SHOW DATABASES"
+admin_text admins.VersionComment = codes "SELECT @@version_comment"
+admin_text admins.Database = codes "SELECT DATABASE()"
+
 -- the canonical text
 unfoldable pub printed : Statement → List ℕ
 printed (statements.Insert i) = codes "INSERT INTO " ++ (name_text i.table ++ (columns_text i.columns ++ (codes " VALUES " ++ joined_text (codes ",") (map tuple_text i.rows))))
-printed (statements.Select s) = codes "SELECT " ++ (items_text s.items ++ (codes " FROM " ++ (name_text s.tab.table ++ (alias_text s.tab.alias ++ (where_text s.cond ++ (order_text s.order ++ (limit_text s.limit ++ locked_text s.lock)))))))
+printed (statements.Select s) = codes "SELECT " ++ (items_text s.items ++ (codes " FROM " ++ (source_text (s.tab, s.join) ++ (where_text s.cond ++ (order_text s.order ++ (limit_text s.limit ++ locked_text s.lock))))))
 printed (statements.Update u) = codes "UPDATE " ++ (name_text u.table ++ (codes " SET " ++ (joined_text (codes ", ") (map assignment_text u.sets) ++ where_text u.cond)))
 printed (statements.Delete d) = codes "DELETE FROM " ++ (name_text d.table ++ where_text d.cond)
+printed (statements.Admin a) = admin_text a

@@ -1,5 +1,6 @@
 -- Reading tokens from left to right: what stands at the front, and the tokens behind it, or where reading stops.
-use Rattle.std.specs.Prelude.{◌≡◌, ◌++◌, ℕ, zero, suc, ◌==◌, ◌||◌, Bool, true, false, List, [], ◌∷◌, length, Option, Some, None, Result, Ok, Err, is_some, option_map, if◌then◌else◌}
+use Rattle.std.specs.Cmp.Lexicographic.{pointwise}
+use Rattle.std.specs.Prelude.{◌≡◌, ◌++◌, ℕ, zero, suc, ◌==◌, ◌||◌, nat_eq, Bool, true, false, List, [], ◌∷◌, length, Option, Some, None, Result, Ok, Err, is_some, option_map, if◌then◌else◌}
 use Rattle.sql_values.specs.declared.literal.Literal.{Literal}
 use Rattle.sql_values.specs.declared.tree.ColumnName.{ColumnName}
 use Rattle.sql_values.specs.declared.tree.Operand.{Operand}
@@ -20,17 +21,20 @@ use Rattle.sql_text.specs.declared.statement.AggregateItem.{AggregateItem}
 use Rattle.sql_text.specs.declared.statement.SortItem.{SortItem}
 use Rattle.sql_text.specs.declared.statement.Limit.{Limit as RowLimit}
 use Rattle.sql_text.specs.declared.statement.Tab.{Tab}
+use Rattle.sql_text.specs.declared.statement.Join.{Join as Joined}
+use Rattle.sql_text.specs.declared.statement.Admin.{Admin}
+use Rattle.sql_text.specs.declared.statement.Admin.TheVariants as admins
 use Rattle.sql_text.specs.declared.statement.Assignment.{Assignment}
 use Rattle.sql_text.specs.declared.link.AggregateCall.{AggregateCall}
 use Rattle.sql_text.specs.declared.link.AggregateCall.TheVariants as calls
 use Rattle.sql_text.specs.declared.token.Fixed.{Fixed}
-use Rattle.sql_text.specs.declared.token.Fixed.TheVariants.{And, As, Asc, Between, By, Count, Delete, Desc, For, From, In, Insert, Into, Limit, Lock, Max, Min, Mode, Not, Null, Offset, Or, Order, Select, Set, Share, Sum, Update, Values, Where, Commit, End, Prepare, Recover, Replace, Rollback, Start, Xa, Open, Close, Comma, Dot, Star, Plus, Minus, Semicolon, Equal, NotEqual, Less, AtMost, Greater, AtLeast}
+use Rattle.sql_text.specs.declared.token.Fixed.TheVariants.{And, As, Asc, Between, By, Count, Database, Databases, Delete, Desc, For, From, In, Inner, Insert, Into, Join, Limit, Lock, Max, Min, Mode, Not, Null, Offset, On, Or, Order, Select, Set, Share, Show, Sum, Tables, Update, Values, Where, VersionComment, Commit, End, Prepare, Recover, Replace, Rollback, Start, Xa, Open, Close, Comma, Dot, Star, Plus, Minus, Semicolon, Equal, NotEqual, Less, AtMost, Greater, AtLeast}
 use Rattle.sql_text.specs.declared.token.Token.{Token}
 use Rattle.sql_text.specs.declared.token.Token.TheVariants as tokens
 use Rattle.sql_text.specs.declared.fault.Stop.{Stop}
 use Rattle.sql_text.specs.declared.fault.ReadError.{ReadError}
 use Rattle.sql_text.specs.declared.fault.ReadError.TheVariants as errors
-use Rattle.sql_text.specs.Grammar.{name_of, literal_of, comparison_of, sign_of, count_of, is_spider, joined, addend}
+use Rattle.sql_text.specs.Grammar.{name_of, literal_of, comparison_of, sign_of, count_of, one_row_of, other_name_of, is_spider, joined, addend, known_name}
 
 -- FAULTS AND STEPS
 
@@ -109,6 +113,14 @@ number_of Minus = 48
 number_of Asc = 49
 number_of Desc = 50
 number_of Offset = 51
+number_of Database = 52
+number_of Databases = 53
+number_of Inner = 54
+number_of Join = 55
+number_of On = 56
+number_of Show = 57
+number_of Tables = 58
+number_of VersionComment = 59
 
 abbrev pub is_fixed : Fixed → Token → Bool
 is_fixed f (tokens.Fixed g) = number_of g == number_of f
@@ -337,6 +349,38 @@ select_items_at depth ts =
 unfoldable pub tab_at : List Token → Result (Tab × List Token) Stop
 tab_at ts = table_at ts >>= λ t. alias_at t.1 >>= λ a. Ok (record { table = t.0; alias = a.0 }, a.1)
 
+unfoldable pub other_name_at : List ℕ → List Token → Result (Option (List ℕ) × List Token) Stop
+other_name_at n ts = one_at (other_name_of n) ts >>= λ a. Ok (Some a.0, a.1)
+
+unfoldable pub other_alias_at : List ℕ → List Token → Result (Option (List ℕ) × List Token) Stop
+other_alias_at n ts = if begins As ts then other_name_at n (behind ts) else other_name_at n ts
+
+unfoldable pub free_alias_at : List ℕ → List Token → Result (Option (List ℕ) × List Token) Stop
+free_alias_at n ts = if begins As ts then other_name_at n (behind ts) else (if stands name_of ts then other_name_at n ts else Ok (None, ts))
+
+unfoldable pub alias_beside_at : Bool → List ℕ → List Token → Result (Option (List ℕ) × List Token) Stop
+alias_beside_at true n ts = other_alias_at n ts
+alias_beside_at false n ts = free_alias_at n ts
+
+unfoldable pub tab_beside_at : List ℕ → List Token → Result (Tab × List Token) Stop
+tab_beside_at n ts = table_at ts >>= λ t. alias_beside_at (pointwise nat_eq t.0 n) n t.1 >>= λ a. Ok (record { table = t.0; alias = a.0 }, a.1)
+
+unfoldable pub on_at : ℕ → List Token → Result (Option Cond × List Token) Stop
+on_at depth ts = if begins On ts then (cond_at depth (behind ts) >>= λ c. Ok (Some c.0, c.1)) else Ok (None, ts)
+
+unfoldable pub listed_tab_at : List ℕ → List Token → Result (Option Joined × List Token) Stop
+listed_tab_at n ts = tab_beside_at n ts >>= λ t. Ok (Some (record { tab = t.0; on = None }), t.1)
+
+unfoldable pub joined_tab_at : List ℕ → ℕ → List Token → Result (Option Joined × List Token) Stop
+joined_tab_at n depth ts = tab_beside_at n ts >>= λ t. on_at depth t.1 >>= λ c. Ok (Some (record { tab = t.0; on = c.0 }), c.1)
+
+unfoldable pub join_at : List ℕ → ℕ → List Token → Result (Option Joined × List Token) Stop
+join_at n depth ts =
+    if begins Comma ts then listed_tab_at n (behind ts)
+    else (if begins Inner ts then (expect Join (behind ts) >>= joined_tab_at n depth)
+    else (if begins Join ts then joined_tab_at n depth (behind ts)
+    else Ok (None, ts)))
+
 unfoldable pub where_at : ℕ → List Token → Result (Option Cond × List Token) Stop
 where_at depth ts = if begins Where ts then (cond_at depth (behind ts) >>= λ c. Ok (Some c.0, c.1)) else Ok (None, ts)
 
@@ -388,11 +432,37 @@ lock_at ts = if begins Lock ts then share_at (behind ts) else for_update_at ts
 unfoldable pub locked_at : List Token → Result (Option LockMode × List Token) Stop
 locked_at ts = if begins Lock ts || begins For ts then (lock_at ts >>= λ m. Ok (Some m.0, m.1)) else Ok (None, ts)
 
-unfoldable pub select_at : ℕ → List Token → Result (Statement × List Token) Stop
-select_at depth ts =
-    expect Select ts >>= λ rest. select_items_at depth rest >>= λ i. expect From i.1 >>= λ rest. tab_at rest >>= λ t. where_at depth t.1 >>= λ c.
+unfoldable pub source_at : ℕ → List Token → Result ((Tab × Option Joined) × List Token) Stop
+source_at depth ts = tab_at ts >>= λ t. join_at (known_name t.0) depth t.1 >>= λ j. Ok ((t.0, j.0), j.1)
+
+unfoldable pub rows_at : ℕ → List Token → Result (Statement × List Token) Stop
+rows_at depth ts =
+    select_items_at depth ts >>= λ i. expect From i.1 >>= λ rest. source_at depth rest >>= λ s. where_at depth s.1 >>= λ c.
     order_at i.0 c.1 >>= λ o. limit_at i.0 o.1 >>= λ l. locked_at l.1 >>= λ m.
-    Ok (statements.Select (record { items = i.0; tab = t.0; cond = c.0; order = o.0; limit = l.0; lock = m.0 }), m.1)
+    Ok (statements.Select (record { items = i.0; tab = s.0.0; join = s.0.1; cond = c.0; order = o.0; limit = l.0; lock = m.0 }), m.1)
+
+unfoldable pub comment_limit_at : List Token → Result (Admin × List Token) Stop
+comment_limit_at ts = if begins Limit ts then (one_at one_row_of (behind ts) >>= λ n. Ok (admins.VersionComment, n.1)) else Ok (admins.VersionComment, ts)
+
+unfoldable pub database_at : ℕ → List Token → Result (Admin × List Token) Stop
+database_at depth ts = parenthesized_at (λ inside. Ok (admins.Database, inside)) depth ts
+
+unfoldable pub of_server_at : ℕ → List Token → Result (Admin × List Token) Stop
+of_server_at depth ts = if begins VersionComment ts then comment_limit_at (behind ts) else (expect Database ts >>= database_at depth)
+
+-- what stands behind SELECT
+unfoldable pub asked_at : ℕ → List Token → Result (Statement × List Token) Stop
+asked_at depth ts =
+    if begins VersionComment ts || begins Database ts then (of_server_at depth ts >>= λ a. Ok (statements.Admin a.0, a.1)) else rows_at depth ts
+
+unfoldable pub select_at : ℕ → List Token → Result (Statement × List Token) Stop
+select_at depth ts = expect Select ts >>= asked_at depth
+
+unfoldable pub shown_at : List Token → Result (Admin × List Token) Stop
+shown_at ts = if begins Tables ts then Ok (admins.ShowTables, behind ts) else (expect Databases ts >>= λ rest. Ok (admins.ShowDatabases, rest))
+
+unfoldable pub show_at : List Token → Result (Statement × List Token) Stop
+show_at ts = expect Show ts >>= λ rest. shown_at rest >>= λ a. Ok (statements.Admin a.0, a.1)
 
 unfoldable pub assignment_at : ℕ → List Token → Result (Assignment × List Token) Stop
 assignment_at depth ts = name_at ts >>= λ n. expect Equal n.1 >>= λ rest. expr_at depth rest >>= λ e. Ok (record { column = n.0; value = e.0 }, e.1)
@@ -411,8 +481,9 @@ unfoldable pub body_at : ℕ → List Token → Result (Statement × List Token)
 body_at depth ts =
     if begins Insert ts then insert_at depth ts
     else (if begins Select ts then select_at depth ts
+    else (if begins Show ts then show_at ts
     else (if begins Update ts then update_at depth ts
-    else delete_at depth ts))
+    else delete_at depth ts)))
 
 -- what was read, where nothing stands behind it
 abbrev pub ended : {X : Type 0} → X → List Token → Result X Stop

@@ -4,8 +4,9 @@
 //! A text is read in two layers. Bytes are tokens by `specs/Tokens`: words, names in backquotes, digits, texts and symbols, with blanks and comments between
 //! them, up to the first that is no token. Tokens are a statement by `specs/Grammar`, or a request by `specs/LinkGrammar`, relations made rule by rule, apart
 //! from the parser. INSERT has an optional list of columns and rows of literals. SELECT has `*` or at most 900 columns with aliases, or at most 900 aggregates
-//! with aliases, one table, a condition, and FOR UPDATE or LOCK IN SHARE MODE; ORDER BY, LIMIT and OFFSET only where it has no aggregates, and in `LIMIT a, b`
-//! the offset is a. UPDATE sets columns to expressions, and like DELETE it has one table and a condition. The ten requests are five of a branch and XA
+//! with aliases, one table or two, a condition, and FOR UPDATE or LOCK IN SHARE MODE; ORDER BY, LIMIT and OFFSET only where it has no aggregates, and in
+//! `LIMIT a, b` the offset is a. Two tables stand with a comma or JOIN between them, behind JOIN with a condition behind ON or without, and are known by
+//! different names. SHOW TABLES, SHOW DATABASES, SELECT @@version_comment and SELECT DATABASE() ask about the server. UPDATE sets columns to expressions, and like DELETE it has one table and a condition. The ten requests are five of a branch and XA
 //! RECOVER, a scan, rows that are put, and keys that go, by list or between two. The words of link text that no statement has, as XA or REPLACE, are keywords
 //! there alone, and names in statements.
 //!
@@ -40,8 +41,8 @@ pub use link_printing::print_link;
 pub use parsing::{MOST_LINK_OPENINGS, MOST_OPENINGS, parse, parse_link};
 pub use printing::{print, push_quoted};
 pub use statement::{
-    AggregateItem, AggregateItems, Assignment, Assignments, Delete, Insert, Item, ItemList, Limit,
-    Names, Select, SelectItems, SortItem, SortList, Statement, Tab, Tuples, Update,
+    Admin, AggregateItem, AggregateItems, Assignment, Assignments, Delete, Insert, Item, ItemList,
+    Join, Limit, Names, Select, SelectItems, SortItem, SortList, Statement, Tab, Tuples, Update,
 };
 pub use token::{Fixed, Token};
 

@@ -7,9 +7,10 @@ ghost use Rattle.sql_text.specs.Printing.{escaped, quoted, literal_text, name_te
 
 use crate::printing::aggregates::push_aggregate_items;
 use crate::printing::expressions::push_expr;
+use crate::printing::joins::push_source;
 use crate::printing::orders::{push_limit, push_order};
 use crate::statement::{
-    Assignment, Assignments, Delete, Insert, Item, Names, Select, SelectItems, Statement, Tab,
+    Admin, Assignment, Assignments, Delete, Insert, Item, Names, Select, SelectItems, Statement,
     Update,
 };
 use list_types::{Bytes, Listed};
@@ -18,6 +19,7 @@ use std::alloc::{AllocError, Global};
 
 pub mod aggregates;
 mod expressions;
+mod joins;
 pub mod orders;
 
 /// Adds one byte of a text, as it stands in a literal.
@@ -427,15 +429,6 @@ fn push_insert(alloc: Global, out: &mut Vec<u8>, insert: &Insert) -> Result<(), 
     push_values(alloc, out, insert.rows.as_slice())
 }
 
-/// Adds FROM and a table with its alias.
-fn push_source(out: &mut Vec<u8>, tab: &Tab) -> Result<(), AllocError>
-    ensures { OnOk result (out.new.items ≡ out.old.items ++ (codes " FROM " ++ (name_text tab.now.table ++ alias_text tab.now.alias))) }
-{
-    out.extend_from_slice(b" FROM ")?;
-    push_name(out, &tab.table)?;
-    push_alias(out, &tab.alias)
-}
-
 /// Adds how rows are locked.
 pub fn push_lock(out: &mut Vec<u8>, lock: LockMode) -> Result<(), AllocError>
     ensures { OnOk result (out.new.items ≡ out.old.items ++ lock_text lock) }
@@ -480,7 +473,7 @@ fn push_select(alloc: Global, out: &mut Vec<u8>, select: &Select) -> Result<(), 
 {
     out.extend_from_slice(b"SELECT ")?;
     push_items(out, &select.items)?;
-    push_source(out, &select.tab)?;
+    push_source(alloc, out, &select.tab, &select.join)?;
     push_select_end(alloc, out, select)
 }
 
@@ -555,8 +548,21 @@ fn push_delete(alloc: Global, out: &mut Vec<u8>, delete: &Delete) -> Result<(), 
     push_where(alloc, out, &delete.cond)
 }
 
+/// Adds a question about the server.
+#[tactic(auto, unfolding(crate::specs::Printing::printed))]
+fn push_admin(out: &mut Vec<u8>, admin: Admin) -> Result<(), AllocError>
+    ensures { OnOk result (out.new.items ≡ out.old.items ++ printed (statements.Admin admin)) }
+{
+    match admin {
+        Admin::ShowTables => out.extend_from_slice(b"SHOW TABLES"),
+        Admin::ShowDatabases => out.extend_from_slice(b"SHOW DATABASES"),
+        Admin::VersionComment => out.extend_from_slice(b"SELECT @@version_comment"),
+        Admin::Database => out.extend_from_slice(b"SELECT DATABASE()"),
+    }
+}
+
 /// The canonical text of a statement: keywords in capitals, one blank between words, names in backquotes, values with `,` between them and other lists with
-/// `, `, texts in `'`, one blank on each side of a sign or star and one behind a minus of a factor, no ASC, an offset behind OFFSET unless it is 0, and
+/// `, `, two tables with JOIN between them where ON stands there and `, ` where not, texts in `'`, one blank on each side of a sign or star and one behind a minus of a factor, no ASC, an offset behind OFFSET unless it is 0, and
 /// parentheses round a condition or an expression only where it would read otherwise without them.
 pub fn print(alloc: Global, statement: &Statement) -> Result<Bytes, AllocError>
     ensures { IfOk result (λ text. text ≡ printed statement.now) }
@@ -567,6 +573,7 @@ pub fn print(alloc: Global, statement: &Statement) -> Result<Bytes, AllocError>
         Statement::Select(select) => push_select(alloc, &mut out, select)?,
         Statement::Update(update) => push_update(alloc, &mut out, update)?,
         Statement::Delete(delete) => push_delete(alloc, &mut out, delete)?,
+        Statement::Admin(admin) => push_admin(&mut out, *admin)?,
     }
     Ok(Listed::from_vec(out))
 }

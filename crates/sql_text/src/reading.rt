@@ -1,10 +1,12 @@
 //! Statements out of tokens, by recursive descent: a function for each rule of the grammar.
+pub mod admin;
 pub mod aggregates;
 pub mod branches;
 pub mod conditions;
 pub mod delete;
 pub mod expressions;
 pub mod insert;
+pub mod joins;
 pub mod limits;
 pub mod locks;
 pub mod names;

@@ -13,6 +13,21 @@ pub enum Statement {
     Update(Update),
     /// DELETE.
     Delete(Delete),
+    /// A question about the server.
+    Admin(Admin),
+}
+
+/// A question about the server, as programs of administration and connectors put it.
+#[derive(Clone, Copy, Debug, PartialEq, Eq)]
+pub enum Admin {
+    /// SHOW TABLES.
+    ShowTables,
+    /// SHOW DATABASES.
+    ShowDatabases,
+    /// SELECT @@version_comment, with LIMIT 1 or without.
+    VersionComment,
+    /// SELECT DATABASE().
+    Database,
 }
 
 /// Names of columns, in order.
@@ -29,11 +44,13 @@ pub struct Insert {
     pub rows: Tuples,
 }
 
-/// SELECT: items of the rows of a table for which a condition holds, or aggregates over these rows.
+/// SELECT: items of the rows of a table or of a join for which a condition holds, or aggregates over these rows.
 #[derive(Debug, Drop)]
 pub struct Select {
     pub items: SelectItems,
     pub tab: Tab,
+    /// The second table, where two are joined.
+    pub join: Option<Join>,
     pub cond: Option<Cond>,
     /// By what the rows are sorted, the first counting most. It is empty where the items are aggregates, or no ORDER BY stands there.
     pub order: SortList,
@@ -96,6 +113,14 @@ pub struct Limit {
 pub struct Tab {
     pub table: Name,
     pub alias: Option<Name>,
+}
+
+/// The second table of a join, which the statement knows by another name than the first, and the condition on pairs of rows that stands behind ON. With none
+/// it is all pairs: behind a comma and behind JOIN alike.
+#[derive(Debug, Drop)]
+pub struct Join {
+    pub tab: Tab,
+    pub on: Option<Cond>,
 }
 
 /// UPDATE: columns of the rows of a table for which a condition holds are set, one after the other.

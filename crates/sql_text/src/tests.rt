@@ -160,6 +160,97 @@ fn sorts_limits_and_aggregates(rt: HostRuntime) -> Result<(), Fail> {
 }
 
 #[test]
+fn joins(rt: HostRuntime) -> Result<(), Fail> {
+    let cases: [(&[u8], u8, u64); 22] = [
+        (b"SELECT * FROM a, b", 0, 0),
+        (
+            b"select a.k x,`b`.v from spider.a, b as c where a.k=c.k order by c.v desc limit 3 for update;",
+            0,
+            0,
+        ),
+        (
+            b"select count(*),sum(b.v) from a inner join b on a.k=b.k where b.v>1",
+            0,
+            0,
+        ),
+        (b"SELECT * FROM a JOIN b", 0, 0),
+        (b"SELECT * FROM a x JOIN a", 0, 0),
+        (b"SELECT * FROM t, t u", 0, 0),
+        (b"SELECT * FROM t JOIN `t` AS u ON t.k = u.k", 0, 0),
+        (b"SELECT * FROM t, t", 1, 18),
+        (b"SELECT * FROM t, `t` WHERE k = 1", 1, 21),
+        (b"SELECT * FROM t JOIN spider.t ON k = 1", 1, 30),
+        (b"SELECT * FROM t, u AS `t`", 1, 22),
+        (b"SELECT * FROM a t JOIN b t ON 1 = 1", 1, 25),
+        (b"SELECT * FROM a, b, c", 1, 18),
+        (b"SELECT * FROM a, b ON a.k = b.k", 1, 19),
+        (b"SELECT * FROM a ON a.k = 1", 1, 16),
+        (b"SELECT * FROM a INNER b", 1, 22),
+        (b"SELECT * FROM a JOIN b WHERE a.k = 1 ON b.k = 1", 1, 37),
+        (b"SELECT * FROM a JOIN b ON", 1, 25),
+        (b"SELECT join FROM t", 1, 7),
+        (b"SELECT `join`, `on` FROM `show`", 0, 0),
+        (b"UPDATE a, b SET v = 1", 1, 8),
+        (b"DELETE FROM a JOIN b", 1, 14),
+    ];
+    for (text, kind, place) in cases {
+        assert_eq!(rt; outcome(&rt, text), (kind, place), "{text:?}");
+    }
+    Ok(())
+}
+
+#[test]
+fn administration(rt: HostRuntime) -> Result<(), Fail> {
+    let cases: [(&[u8], u8, u64); 20] = [
+        (b"SELECT @@version_comment LIMIT 1", 0, 0),
+        (b"select @@VERSION_comment;", 0, 0),
+        (b"SELECT @@version_comment LIMIT 2", 1, 31),
+        (b"SELECT @@version_comment LIMIT -1", 1, 31),
+        (b"SELECT @@version_comment FROM t", 1, 25),
+        (b"SELECT @@version", 1, 7),
+        (b"SELECT @version_comment", 1, 7),
+        (b"SELECT@@version_comment", 1, 6),
+        (b"SELECT @@version_comment@@version_comment", 1, 24),
+        (b"SELECT @@ version_comment", 1, 7),
+        (b"show tables;", 0, 0),
+        (b"SHOW /* c */ DATABASES", 0, 0),
+        (b"SHOW", 1, 4),
+        (b"SHOW DATABASE", 1, 5),
+        (b"SHOW TABLES FROM t", 1, 12),
+        (b"SELECT DATABASE ( )", 0, 0),
+        (b"SELECT DATABASE()()", 1, 17),
+        (b"SELECT DATABASE(a)", 1, 16),
+        (b"SELECT database FROM t", 1, 16),
+        (b"SELECT tables FROM t", 1, 7),
+    ];
+    for (text, kind, place) in cases {
+        assert_eq!(rt; outcome(&rt, text), (kind, place), "{text:?}");
+    }
+    Ok(())
+}
+
+// ON and WHERE may each have as many openings inside one another as a statement: what one has closed, the other has again.
+fn both_enclosed(rt: &HostRuntime, on: usize, cond: usize) -> Result<(u8, u64), Fail> {
+    let mut text = Vec::new(rt.alloc());
+    text.extend_from_slice(b"SELECT * FROM a JOIN b ON ")?;
+    add_times(&mut text, b"(", on)?;
+    text.extend_from_slice(b"a.k = b.k")?;
+    add_times(&mut text, b")", on)?;
+    text.extend_from_slice(b" WHERE ")?;
+    add_times(&mut text, b"NOT ", cond)?;
+    text.extend_from_slice(b"b.v = 1")?;
+    Ok(outcome(rt, text.as_slice()))
+}
+
+#[test]
+fn openings_of_joins(rt: HostRuntime) -> Result<(), Fail> {
+    assert_eq!(rt; both_enclosed(&rt, 64, 64)?, (0, 0));
+    assert_eq!(rt; both_enclosed(&rt, 65, 0)?, (2, 90));
+    assert_eq!(rt; both_enclosed(&rt, 64, 65)?, (2, 426));
+    Ok(())
+}
+
+#[test]
 fn openings_of_expressions(rt: HostRuntime) -> Result<(), Fail> {
     let front = b"UPDATE t SET v = ";
     assert_eq!(rt; repeated(&rt, front, b"- ", 64, b"1")?, (0, 0));
@@ -277,6 +368,33 @@ fn canonical_orders(rt: HostRuntime) -> Result<(), Fail> {
             b"SELECT COUNT(*) AS `n`, SUM(`v`), MIN(`t`.`v`) AS `m`, MAX(`w`) FROM `t` AS `t` WHERE `a` = 1 FOR UPDATE",
         ),
         (b"select count(*) from t order by a", b""),
+    ];
+    for (text, expected) in cases {
+        assert!(rt; prints_as(&rt, text, expected)?, "{text:?}");
+    }
+    Ok(())
+}
+
+#[test]
+fn canonical_joins(rt: HostRuntime) -> Result<(), Fail> {
+    let cases: [(&[u8], &[u8]); 8] = [
+        (b"select * from a,b", b"SELECT * FROM `a`, `b`"),
+        (b"select * from a join b", b"SELECT * FROM `a`, `b`"),
+        (
+            b"select a.k from a x inner join spider.a on x.k=a.k or x.v>1 where a.v=2 order by x.k limit 5",
+            b"SELECT `a`.`k` FROM `a` AS `x` JOIN `a` ON `x`.`k` = `a`.`k` OR `x`.`v` > 1 WHERE `a`.`v` = 2 ORDER BY `x`.`k` LIMIT 5",
+        ),
+        (
+            b"select count(*) from a, a as b for update",
+            b"SELECT COUNT(*) FROM `a`, `a` AS `b` FOR UPDATE",
+        ),
+        (
+            b"Select @@Version_Comment limit 1",
+            b"SELECT @@version_comment",
+        ),
+        (b"select database ( ) ;", b"SELECT DATABASE()"),
+        (b"show tables", b"SHOW TABLES"),
+        (b"show databases;", b"SHOW DATABASES"),
     ];
     for (text, expected) in cases {
         assert!(rt; prints_as(&rt, text, expected)?, "{text:?}");

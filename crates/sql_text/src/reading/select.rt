@@ -1,17 +1,19 @@
 //! SELECT.
 ghost use Rattle.std.specs.Prelude.{◌≡◌, ◌++◌, [], ◌∷◌, length};
 ghost use Rattle.sql_text.specs.declared.token.Fixed.TheVariants as fixed;
-ghost use Rattle.sql_text.specs.Reading.{Gives, item_at, column_items_at, aggregate_item_at, aggregate_items_at, select_items_at, tab_at, where_at, select_at, further_at, with_front};
+ghost use Rattle.sql_text.specs.Reading.{Gives, item_at, column_items_at, aggregate_item_at, aggregate_items_at, select_items_at, where_at, rows_at, asked_at, select_at, further_at, with_front};
 
 use crate::cursor::{begins, behind, expect, name_stands};
 use crate::fault::ReadError;
+use crate::reading::admin::of_server;
 use crate::reading::aggregates::aggregate;
 use crate::reading::conditions::cond;
+use crate::reading::joins::source;
 use crate::reading::limits::limit;
 use crate::reading::locks::locked;
-use crate::reading::names::{alias, column, table};
+use crate::reading::names::{alias, column};
 use crate::reading::orders::order;
-use crate::statement::{AggregateItem, Item, Select, SelectItems, Statement, Tab};
+use crate::statement::{AggregateItem, Item, Select, SelectItems, Statement};
 use crate::token::{Fixed, Token};
 use list_types::Listed;
 use sql_values::Cond;
@@ -135,16 +137,6 @@ fn select_items(
     aggregate_items(alloc, depth, tokens)
 }
 
-/// A table with its alias.
-#[tactic(auto, unfolding(crate::specs::Reading::tab_at))]
-fn tab(tokens: &[Token]) -> Result<(Tab, &[Token]), ReadError>
-    ensures { Gives (λ x. (x.0, x.1.now)) result (tab_at tokens.now) }
-{
-    let (table, rest) = table(tokens)?;
-    let (alias, rest) = alias(rest)?;
-    Ok((Tab { table, alias }, rest))
-}
-
 /// WHERE and its condition, or none.
 #[tactic(auto, unfolding(crate::specs::Reading::where_at))]
 pub fn where_cond(
@@ -161,6 +153,42 @@ pub fn where_cond(
     Ok((Some(cond), rest))
 }
 
+/// A SELECT of rows, behind its first word.
+#[tactic(auto, unfolding(crate::specs::Reading::rows_at))]
+fn rows(alloc: Global, depth: u32, tokens: &[Token]) -> Result<(Statement, &[Token]), ReadError>
+    ensures { Gives (λ x. (x.0, x.1.now)) result (rows_at depth tokens.now) }
+{
+    let (items, rest) = select_items(alloc, depth, tokens)?;
+    let rest = expect(Fixed::From, rest)?;
+    let (tab, join, rest) = source(alloc, depth, rest)?;
+    let (cond, rest) = where_cond(alloc, depth, rest)?;
+    let (order, rest) = order(alloc, &items, rest)?;
+    let (limit, rest) = limit(&items, rest)?;
+    let (lock, rest) = locked(rest)?;
+    let select = Select {
+        items,
+        tab,
+        join,
+        cond,
+        order,
+        limit,
+        lock,
+    };
+    Ok((Statement::Select(select), rest))
+}
+
+/// What stands behind SELECT.
+#[tactic(auto, unfolding(crate::specs::Reading::asked_at))]
+fn asked(alloc: Global, depth: u32, tokens: &[Token]) -> Result<(Statement, &[Token]), ReadError>
+    ensures { Gives (λ x. (x.0, x.1.now)) result (asked_at depth tokens.now) }
+{
+    if begins(Fixed::VersionComment, tokens) || begins(Fixed::Database, tokens) {
+        let (admin, rest) = of_server(depth, tokens)?;
+        return Ok((Statement::Admin(admin), rest));
+    }
+    rows(alloc, depth, tokens)
+}
+
 /// SELECT.
 #[tactic(auto, unfolding(crate::specs::Reading::select_at))]
 pub fn select(
@@ -171,20 +199,5 @@ pub fn select(
     ensures { Gives (λ x. (x.0, x.1.now)) result (select_at depth tokens.now) }
 {
     let rest = expect(Fixed::Select, tokens)?;
-    let (items, rest) = select_items(alloc, depth, rest)?;
-    let rest = expect(Fixed::From, rest)?;
-    let (tab, rest) = tab(rest)?;
-    let (cond, rest) = where_cond(alloc, depth, rest)?;
-    let (order, rest) = order(alloc, &items, rest)?;
-    let (limit, rest) = limit(&items, rest)?;
-    let (lock, rest) = locked(rest)?;
-    let select = Select {
-        items,
-        tab,
-        cond,
-        order,
-        limit,
-        lock,
-    };
-    Ok((Statement::Select(select), rest))
+    asked(alloc, depth, rest)
 }
