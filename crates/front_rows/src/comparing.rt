@@ -18,7 +18,7 @@ fn rank(value: Option<&Value>) -> u32
     }
 }
 
-fn compare_values(left: Option<&Value>, right: Option<&Value>) -> Ordering
+pub(crate) fn compare_values(left: Option<&Value>, right: Option<&Value>) -> Ordering
     ensures { result ≡ cell_cmp (cell_literal left.entry) (cell_literal right.entry) }
 {
     match (left, right) {
@@ -28,7 +28,7 @@ fn compare_values(left: Option<&Value>, right: Option<&Value>) -> Ordering
     }
 }
 
-fn compare_column(column: u32, left: &Row, right: &Row) -> Ordering
+pub(crate) fn compare_column(column: u32, left: &Row, right: &Row) -> Ordering
     ensures { result ≡ cell_cmp (cell column left.now) (cell column right.now) }
 {
     let left = left.as_slice().get(column as usize);

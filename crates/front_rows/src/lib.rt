@@ -12,12 +12,14 @@ mod aggregate;
 mod aggregating;
 mod comparing;
 mod gathering;
+mod joining;
 pub mod laws;
 mod merges;
 mod order;
 
 pub use aggregate::{AggFun, Aggregate, Aggregates, CellRow};
 pub use aggregating::{is_part, merge_aggregates};
+pub use joining::{column_place, join};
 pub use merges::{MOST_BYTES, MOST_ROWS, RowsFault, merge_rows};
 pub use order::{Answers, Order, Sort};
 

@@ -8,7 +8,7 @@ use crate::gathering::{cut, gathered, is_too_large};
 use crate::{Answers, Order, Sort};
 use list_types::Listed;
 use sql_values::{Row, Rows};
-use std::alloc::{AllocError, Global};
+use std::alloc::{AllocError, AllocFailed, Global};
 use thiserror::Error;
 
 /// The most rows of an answer.
@@ -35,6 +35,17 @@ impl From<AllocError> for RowsFault {
     ghost from_gives = { λ _ fault. fault ≡ NoMemory };
 
     fn from(_error: AllocError) -> RowsFault {
+        RowsFault::NoMemory
+    }
+}
+
+impl<T: Drop> From<AllocFailed<T>> for RowsFault {
+    ghost use Rattle.std.specs.Prelude.{◌≡◌};
+    ghost use Rattle.front_rows.specs.declared.merges.RowsFault.TheVariants.{NoMemory};
+
+    ghost from_gives = { λ _ fault. fault ≡ NoMemory };
+
+    fn from(_error: AllocFailed<T>) -> RowsFault {
         RowsFault::NoMemory
     }
 }

@@ -5,6 +5,7 @@
 //! rule or a plan is left in what is answered.
 #![tactic(auto)]
 
+ghost use Rattle.merge_law.specs.Joins.{JoinRowsAreMerged, JoinsAreMerged};
 ghost use Rattle.merge_law.specs.Merging.{RowsAreMerged, AggregatesAreMerged, AggregatesFit, AggregatesCanMerge, StatementsAreMerged};
 
 /// The rows that a plan's partitions answer, merged, are those of the plain table.
@@ -30,4 +31,14 @@ pub fn aggregates_can_merge()
 /// A statement that isn't refused is its plan's work on what the plan's partitions answer.
 pub fn statements_are_merged()
     ensures { StatementsAreMerged }
+{}
+
+/// The rows that the partitions of two tables answer, merged and joined, are those of the join of the plain tables.
+pub fn join_rows_are_merged()
+    ensures { JoinRowsAreMerged }
+{}
+
+/// A join that isn't refused is its plan's work on what the partitions of both tables answer.
+pub fn joins_are_merged()
+    ensures { JoinsAreMerged }
 {}

@@ -1,5 +1,6 @@
 //! What holds of plain tables and their partitions.
 
+ghost use Rattle.plain_tables.specs.Joins.{ConjunctsAreBoth, SidesMayBeFiltered, JoinsAreScans};
 ghost use Rattle.plain_tables.specs.Inserts.{FoundKeysTell, PutsKeepTables, PutsArePlaced, DeletionsKeepTables, DeletionsArePlaced};
 ghost use Rattle.plain_tables.specs.Partitions.{PartitionsAreMerged, RowsMergeInOneWay};
 ghost use Rattle.plain_tables.specs.Statements.{StatementsAreScans};
@@ -58,4 +59,19 @@ pub fn updates_fit_columns()
 /// A statement that isn't refused is a scan of its plan's condition, and what it makes of the rows that this finds.
 pub fn statements_are_scans()
     ensures { StatementsAreScans }
+{}
+
+/// The conjuncts of ON and WHERE, as one condition, hold exactly where both hold.
+pub fn conjuncts_are_both()
+    ensures { ConjunctsAreBoth }
+{}
+
+/// A join of the rows that each side's own conjuncts keep is the join of all rows.
+pub fn sides_may_be_filtered()
+    ensures { SidesMayBeFiltered }
+{}
+
+/// A join that isn't refused is what its plan makes of the rows that the scans of its sides find.
+pub fn joins_are_scans()
+    ensures { JoinsAreScans }
 {}

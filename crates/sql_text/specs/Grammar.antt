@@ -281,7 +281,7 @@ locked = (lock ▷ λ m. is (Some m)) ∣ is None
 abbrev pub select : ℕ → Rule Statement
 select depth =
     Select ⊳ (select_items depth ▷ λ i. From ⊳ (tab ▷ λ t. where_cond depth ▷ λ c. order i ▷ λ o. limit i ▷ λ l. locked ▷ λ m.
-    is (statements.Select (record { items = i; tab = t; cond = c; order = o; limit = l; lock = m }))))
+    is (statements.Select (record { items = i; tab = t; join = None; cond = c; order = o; limit = l; lock = m }))))
 
 -- name "=" expr
 abbrev pub assignment : ℕ → Rule Assignment

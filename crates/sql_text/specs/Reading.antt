@@ -392,7 +392,7 @@ unfoldable pub select_at : ℕ → List Token → Result (Statement × List Toke
 select_at depth ts =
     expect Select ts >>= λ rest. select_items_at depth rest >>= λ i. expect From i.1 >>= λ rest. tab_at rest >>= λ t. where_at depth t.1 >>= λ c.
     order_at i.0 c.1 >>= λ o. limit_at i.0 o.1 >>= λ l. locked_at l.1 >>= λ m.
-    Ok (statements.Select (record { items = i.0; tab = t.0; cond = c.0; order = o.0; limit = l.0; lock = m.0 }), m.1)
+    Ok (statements.Select (record { items = i.0; tab = t.0; join = None; cond = c.0; order = o.0; limit = l.0; lock = m.0 }), m.1)
 
 unfoldable pub assignment_at : ℕ → List Token → Result (Assignment × List Token) Stop
 assignment_at depth ts = name_at ts >>= λ n. expect Equal n.1 >>= λ rest. expr_at depth rest >>= λ e. Ok (record { column = n.0; value = e.0 }, e.1)

@@ -40,8 +40,8 @@ pub use link_printing::print_link;
 pub use parsing::{MOST_LINK_OPENINGS, MOST_OPENINGS, parse, parse_link};
 pub use printing::{print, push_quoted};
 pub use statement::{
-    AggregateItem, AggregateItems, Assignment, Assignments, Delete, Insert, Item, ItemList, Limit,
-    Names, Select, SelectItems, SortItem, SortList, Statement, Tab, Tuples, Update,
+    AggregateItem, AggregateItems, Assignment, Assignments, Delete, Insert, Item, ItemList, Join,
+    Limit, Names, Select, SelectItems, SortItem, SortList, Statement, Tab, Tuples, Update,
 };
 pub use token::{Fixed, Token};
 

@@ -29,11 +29,13 @@ pub struct Insert {
     pub rows: Tuples,
 }
 
-/// SELECT: items of the rows of a table for which a condition holds, or aggregates over these rows.
+/// SELECT: items of the rows of a table, or of the pairs of rows of two, for which a condition holds, or aggregates over these rows.
 #[derive(Debug, Drop)]
 pub struct Select {
     pub items: SelectItems,
     pub tab: Tab,
+    /// The second table, where it reads two.
+    pub join: Option<Join>,
     pub cond: Option<Cond>,
     /// By what the rows are sorted, the first counting most. It is empty where the items are aggregates, or no ORDER BY stands there.
     pub order: SortList,
@@ -96,6 +98,13 @@ pub struct Limit {
 pub struct Tab {
     pub table: Name,
     pub alias: Option<Name>,
+}
+
+/// The second table of a SELECT, and the condition on which its rows go with those of the first (ON), where one stands there.
+#[derive(Debug, Drop)]
+pub struct Join {
+    pub tab: Tab,
+    pub on: Option<Cond>,
 }
 
 /// UPDATE: columns of the rows of a table for which a condition holds are set, one after the other.

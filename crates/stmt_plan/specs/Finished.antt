@@ -1,5 +1,5 @@
 -- A plan beside what it was made of.
-use Rattle.std.specs.Prelude.{◌≡◌, ℕ, Option}
+use Rattle.std.specs.Prelude.{◌≡◌, ℕ, Option, None}
 use Rattle.sql_values.specs.declared.places.LockMode.{LockMode}
 use Rattle.sql_values.specs.declared.table.TableDef.{TableDef}
 use Rattle.sql_values.specs.declared.tree.Cond.{Cond}
@@ -20,4 +20,5 @@ pub record IsFinished (number : ℕ) (table : TableDef) (rule : Rule) (items : S
   pub cond_is : plan.cond ≡ cond
   pub limit_is : plan.limit ≡ limit
   pub mode_is : plan.mode ≡ mode
+  pub alone : plan.second ≡ None
   pub work_is : plan.work ≡ work

@@ -75,4 +75,5 @@ pub record IsPlan (number : ℕ) (table : TableDef) (rule : Rule) (s : Statement
   pub cond : IsPushed table s plan.cond
   pub limit_is : plan.limit ≡ limit_of table s
   pub mode : plan.mode ≡ mode_of s
+  pub alone : plan.second ≡ None
   pub work_is : plan.work ≡ work_of table s

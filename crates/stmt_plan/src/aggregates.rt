@@ -136,7 +136,7 @@ fn call_text(alloc: Global, call: &AggregateCall) -> Result<Text, AllocError>
 }
 
 /// The name that the answer gives to an aggregate.
-fn answer_name(alloc: Global, item: &AggregateItem) -> Result<Text, AllocError>
+pub(crate) fn aggregate_name(alloc: Global, item: &AggregateItem) -> Result<Text, AllocError>
     ensures { IfOk result (λ name. name ≡ unwrap_or item.now.alias (text_of_call item.now.call)) }
 {
     match &item.alias {
@@ -159,7 +159,7 @@ fn call_column(
     match aggregate(alloc, table, known, &item.call) {
         Ok(aggregate) => Ok(CellColumn {
             aggregate,
-            name: answer_name(alloc, item)?,
+            name: aggregate_name(alloc, item)?,
         }),
         Err(fault) => Err(fault),
     }

@@ -53,6 +53,16 @@ fn sorts(
     Ok(sorts)
 }
 
+/// By the key in this column, rising.
+pub(crate) fn key_sort(column: u32) -> Sort
+    ensures { result ≡ record { column = column; rising = true } }
+{
+    Sort {
+        column,
+        rising: true,
+    }
+}
+
 /// The order of the rows: by the columns of ORDER BY, and then by the key.
 pub(crate) fn orders(
     alloc: Global,
@@ -69,10 +79,7 @@ pub(crate) fn orders(
         Ok(sorts) => sorts,
         Err(fault) => return Err(fault),
     };
-    order.push(Sort {
-        column: table.key,
-        rising: true,
-    })?;
+    order.push(key_sort(table.key))?;
     Ok(order)
 }
 

@@ -1,6 +1,6 @@
 //! What a SELECT asks of its table, or why it is refused; and the WHERE of every statement.
 
-ghost use Rattle.std.specs.Prelude.{◌≡◌, ◌⊎◌, ◌<◌, ◌^◌, true, false, [], ◌∷◌, map, length, None, Some, IfOk, IfErr, IfSome, OnOk, unwrap_or};
+ghost use Rattle.std.specs.Prelude.{◌≡◌, ◌⊎◌, ◌+◌, ◌++◌, ◌<◌, ◌^◌, true, false, [], ◌∷◌, map, length, None, Some, IfOk, IfErr, IfSome, OnOk, unwrap_or};
 ghost use Rattle.std.specs.List.{position};
 ghost use Rattle.std.specs.Option.{option_map};
 ghost use Rattle.sql_values.specs.Columns.{may_qualify, may_mean};
@@ -42,7 +42,7 @@ pub(crate) fn place(columns: &[ColumnDef], known: &Name, name: &ColumnName) -> O
 }
 
 /// The name that the answer gives to an item.
-fn answer_name(alloc: Global, item: &Item) -> Result<Name, AllocError>
+pub(crate) fn answer_name(alloc: Global, item: &Item) -> Result<Name, AllocError>
     ensures { IfOk result (λ name. name ≡ unwrap_or item.now.alias item.now.column.column) }
 {
     match &item.alias {
@@ -120,6 +120,25 @@ fn all_columns(alloc: Global, columns: &[ColumnDef]) -> Result<PickList, AllocEr
         })?;
     }
     Ok(picks)
+}
+
+/// Adds all columns, counted on from those that are there, under their own names.
+pub(crate) fn add_columns(
+    alloc: Global,
+    picks: &mut PickList,
+    columns: &[ColumnDef],
+) -> Result<(), AllocError>
+    requires { length picks.old + length columns.now < 2 ^ 32 }
+    ensures { OnOk result (picks.new ≡ picks.old ++ all_picks (length picks.old) columns.now) }
+{
+    let before = picks.len() as u32;
+    for (i, column) in columns.iter().enumerate() {
+        picks.push(Pick {
+            column: before + i as u32,
+            name: column.name.copy(alloc)?,
+        })?;
+    }
+    Ok(())
 }
 
 /// A copy of the table, as the only one, under the name by which the statement knows it.
@@ -217,7 +236,7 @@ pub(crate) fn asked(
     }
 }
 
-fn known_name(alloc: Global, tab: &Tab) -> Result<Name, AllocError>
+pub(crate) fn known_name(alloc: Global, tab: &Tab) -> Result<Name, AllocError>
     ensures { IfOk result (λ name. name ≡ name_known tab.now) }
 {
     match &tab.alias {
@@ -265,7 +284,7 @@ fn check_rest(
     Ok(Rest { cond, order })
 }
 
-fn skip_of(limit: Option<Limit>) -> u64
+pub(crate) fn skip_of(limit: Option<Limit>) -> u64
     ensures { result ≡ skip_meant limit }
 {
     match limit {
@@ -274,7 +293,7 @@ fn skip_of(limit: Option<Limit>) -> u64
     }
 }
 
-fn most_of(limit: Option<Limit>) -> Option<u64>
+pub(crate) fn most_of(limit: Option<Limit>) -> Option<u64>
     ensures { result ≡ most_meant limit }
 {
     match limit {
@@ -312,6 +331,7 @@ fn choose_rows(
     let work = Work::Select(Selected {
         picks: Picks {
             table: known,
+            second: None,
             picks,
         },
         order,

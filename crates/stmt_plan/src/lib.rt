@@ -5,6 +5,8 @@
 //! is done with the answers (`specs/Plans.antt`): an INSERT has its rows, as they are stored, a SELECT has the columns or the aggregates that it asks for, with
 //! their order and how many of them it gives, an UPDATE has the columns that it sets, and a DELETE nothing more.
 //!
+//! [`plan_join`] does the same for a SELECT of two tables (`specs/Joins.antt`): its plan has a [`Side`], which says what it needs of the second.
+//!
 //! The condition of a plan names columns without their table, as a partition's own table has another name. [`laws`] say that this changes nothing, and
 //! that the partitions of a plan are enough.
 #![tactic(auto)]
@@ -14,8 +16,10 @@ mod arranging;
 mod choosing;
 mod fault;
 mod inserting;
+mod joining;
 mod key_conditions;
 pub mod laws;
+mod naming;
 mod planned;
 mod planning;
 mod setting;
@@ -24,9 +28,10 @@ mod unqualified;
 
 pub use aggregates::aggregate_of;
 pub use fault::{RowFault, StmtFault};
+pub use joining::{Target, plan_join};
 pub use planned::{
     AnswerColumns, CellColumn, CellColumns, Pick, PickList, Picks, Plan, Selected, SetColumn,
-    SetColumns, Work,
+    SetColumns, Side, Work,
 };
 pub use planning::plan_on;
 pub use tables::is_table;

@@ -5,9 +5,11 @@ ghost use Rattle.stmt_plan.specs.Settings.{lone_literal as literal_alone};
 use front_rows::{Aggregate, Order};
 use list_types::{Listed, Text};
 use sql_text::ScanItems;
-use sql_values::{Cond, Expr, Intervals, Literal, LockMode, Name, PartNos, Rows, TableNo};
+use sql_values::{
+    Cond, Expr, Intervals, Literal, LockMode, Name, PartNos, Rows, TableDefs, TableNo,
+};
 
-/// What a statement needs of the partitions of its table.
+/// What a statement needs of the partitions of its table, or of its two tables.
 #[derive(Debug, Drop)]
 pub struct Plan {
     pub table: TableNo,
@@ -23,7 +25,28 @@ pub struct Plan {
     pub limit: Option<u64>,
     /// How the rows that are read are locked.
     pub mode: LockMode,
+    /// What a SELECT of two tables needs of the second. The fields above are then of the first, and the work is done with the rows of the join: those of the
+    /// first table, by their keys, each with those of the second, by theirs.
+    pub second: Option<Side>,
     pub work: Work,
+}
+
+/// What a SELECT of two tables needs of the partitions of the second, and how its rows go with those of the first.
+#[derive(Debug, Drop)]
+pub struct Side {
+    pub table: TableNo,
+    /// The partitions that are asked, rising.
+    pub parts: PartNos,
+    /// The keys that a row may have for which the condition holds.
+    pub keys: Intervals,
+    /// Of which rows. Columns stand without their table.
+    pub cond: Option<Cond>,
+    /// How the rows that are read are locked.
+    pub mode: LockMode,
+    /// What holds on a row of the join, its values those of the first table's row and then those of the second's: ON and WHERE.
+    pub on: Option<Cond>,
+    /// Both tables, under the names by which that condition knows them.
+    pub tables: TableDefs,
 }
 
 /// What is done with the rows that the partitions give.
@@ -94,14 +117,15 @@ impl SetColumn {
 /// Columns that are set, in order. A later one sees what the earlier ones set.
 pub type SetColumns = Listed<SetColumn>;
 
-/// The columns of a SELECT's answer, and the name by which the statement knows its table.
+/// The columns of a SELECT's answer, and the names by which the statement knows its table and its second one, where it reads two.
 #[derive(Clone, Debug, PartialEq, Eq, Drop)]
 pub struct Picks {
     pub table: Name,
+    pub second: Option<Name>,
     pub picks: PickList,
 }
 
-/// A column of the answer: its place in the table, and the name that the answer gives it.
+/// A column of the answer: its place in the table, or in the row of both, and the name that the answer gives it.
 #[derive(Clone, Debug, PartialEq, Eq, Drop)]
 pub struct Pick {
     pub column: u32,

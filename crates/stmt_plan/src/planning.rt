@@ -68,7 +68,7 @@ fn insert(
 }
 
 /// The keys of rows for which the condition may hold.
-fn keys_asked(alloc: Global, table: &TableDef, cond: &Option<Cond>) -> Result<Intervals, AllocError>
+pub(crate) fn keys_asked(alloc: Global, table: &TableDef, cond: &Option<Cond>) -> Result<Intervals, AllocError>
     ensures { IfOk result (λ keys. AreKeys keys (keeps_key table.now cond.now)) }
 {
     match cond {
@@ -97,6 +97,7 @@ fn planned(
         cond: demand.cond,
         limit: demand.limit,
         mode: demand.mode,
+        second: None,
         work: demand.work,
     })
 }
@@ -125,7 +126,7 @@ fn to_write(cond: Option<Cond>, work: Work) -> Demand
 }
 
 /// How a SELECT locks the rows that it reads.
-fn select_mode(select: &Select) -> LockMode
+pub(crate) fn select_mode(select: &Select) -> LockMode
     ensures { result ≡ mode_of (Statement.Select select.now) }
 {
     select.lock.unwrap_or(LockMode::Shared)

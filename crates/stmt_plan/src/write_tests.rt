@@ -77,6 +77,7 @@ fn where_of(rt: &HostRuntime, text: &[u8]) -> Result<Option<Cond>, Fail> {
             let Select {
                 items: _,
                 tab: _,
+                join: _,
                 cond,
                 order: _,
                 limit: _,

@@ -181,6 +181,7 @@ pub fn select(
     let select = Select {
         items,
         tab,
+        join: None,
         cond,
         order,
         limit,
