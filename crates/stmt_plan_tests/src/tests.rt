@@ -2,7 +2,7 @@
 
 use list_types::{Listed, Text};
 use part_rules::{Bound, Bounds, Rule};
-use sql_text::{Statement, parse};
+use sql_text::{Statement, TableStatement, parse};
 use sql_values::{ColumnDef, Kind, LockMode, Name, PartNo, Row, Rows, TableDef, Value};
 use std::test::*;
 use stmt_plan::*;
@@ -44,9 +44,10 @@ pub(crate) fn two_parts(rt: &HostRuntime) -> Result<Rule, Fail> {
     }
 }
 
-pub(crate) fn statement(rt: &HostRuntime, text: &[u8]) -> Result<Statement, Fail> {
+pub(crate) fn statement(rt: &HostRuntime, text: &[u8]) -> Result<TableStatement, Fail> {
     match parse(rt.alloc(), text) {
-        Ok(statement) => Ok(statement),
+        Ok(Statement::Table(statement)) => Ok(statement),
+        Ok(Statement::Admin(_)) => Err(Fail::from("no statement on tables")),
         Err(_) => Err(Fail::from("no statement")),
     }
 }
@@ -55,7 +56,7 @@ pub(crate) fn plan_with(
     rt: &HostRuntime,
     table: &TableDef,
     rule: &Rule,
-    statement: &Statement,
+    statement: &TableStatement,
 ) -> Result<Plan, StmtFault> {
     if is_table(table) && rule.has_parts() {
         plan_on(rt.alloc(), 7, table, rule, statement)
@@ -220,7 +221,7 @@ pub(crate) fn has_places(plan: &Plan, parts: &[PartNo], keys: &[(i64, i64)]) -> 
 // The condition is that of this statement.
 pub(crate) fn has_cond_of(rt: &HostRuntime, plan: &Plan, text: &[u8]) -> Result<bool, Fail> {
     match (statement(rt, text)?, &plan.cond) {
-        (Statement::Select(select), Some(cond)) => match &select.cond {
+        (TableStatement::Select(select), Some(cond)) => match &select.cond {
             Some(other) => Ok(cond.is_same(other)),
             None => Ok(false),
         },
