@@ -24,6 +24,3 @@ pub use branch::{Branch, Change, Changes, Stage};
 pub use fault::BranchFault;
 pub use opening::{MOST_COLUMNS, are_tables};
 pub use store::BranchStore;
-
-#[cfg(test)]
-mod tests;

@@ -20,8 +20,3 @@ pub use aggregate::{AggFun, Aggregate, Aggregates, CellRow};
 pub use aggregating::{is_part, merge_aggregates};
 pub use merges::{MOST_BYTES, MOST_ROWS, RowsFault, merge_rows};
 pub use order::{Answers, Order, Sort};
-
-#[cfg(test)]
-mod aggregate_tests;
-#[cfg(test)]
-mod tests;

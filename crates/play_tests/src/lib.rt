@@ -13,6 +13,8 @@ use std::alloc::Global;
 
 #[cfg(test)]
 mod tests;
+#[cfg(test)]
+mod workloads;
 
 /// Calls the program over memory. Where the words ask to play, status 0 says that the whole transcript of the whole schedule was written, and nothing else.
 pub fn play_in_memory(

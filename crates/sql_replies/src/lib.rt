@@ -17,6 +17,3 @@ mod results;
 pub use errors::{done, log_full, no_memory, no_table};
 pub use faults::{parse_reply, plan_reply};
 pub use outcomes::outcome_reply;
-
-#[cfg(test)]
-mod tests;

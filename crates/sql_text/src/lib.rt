@@ -44,6 +44,3 @@ pub use statement::{
     Names, Select, SelectItems, SortItem, SortList, Statement, Tab, Tuples, Update,
 };
 pub use token::{Fixed, Token};
-
-#[cfg(test)]
-mod tests;

@@ -30,10 +30,3 @@ pub use planned::{
 };
 pub use planning::plan_on;
 pub use tables::is_table;
-
-#[cfg(test)]
-mod select_tests;
-#[cfg(test)]
-mod tests;
-#[cfg(test)]
-mod write_tests;

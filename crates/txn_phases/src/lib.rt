@@ -33,8 +33,3 @@ pub use partitions::{PlacedKey, place_row};
 pub use phase::{Branch, Branches, Ending, Phase, Progress, Stage, Target, Targets};
 pub use placing::Placing;
 pub use requests::{Ask, Asks};
-
-#[cfg(test)]
-mod tests;
-#[cfg(test)]
-mod write_tests;

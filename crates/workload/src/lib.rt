@@ -13,6 +13,3 @@ mod statements;
 pub use counting::summary;
 pub use cutting::cut_at;
 pub use generator::{Generator, played_count};
-
-#[cfg(test)]
-mod tests;

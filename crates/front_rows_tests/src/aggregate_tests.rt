@@ -1,7 +1,7 @@
 //! Worked examples of aggregates. Nothing here promises anything to a proof.
 
-use crate::aggregate::AggFun::{Count, Max, Min, Sum};
-use crate::*;
+use front_rows::AggFun::{Count, Max, Min, Sum};
+use front_rows::*;
 use list_types::{Listed, Text};
 use sql_text::{Cell, LinkAnswer};
 use sql_values::Kind;

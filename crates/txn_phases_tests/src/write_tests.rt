@@ -2,7 +2,7 @@
 //!
 //! Requests are lists of numbers: the server, what is asked, and for a PUT the values of its rows, for a DEL its keys.
 
-use crate::*;
+use txn_phases::*;
 use front_rows::Sort;
 use list_types::{Listed, Text};
 use part_rules::Rule;

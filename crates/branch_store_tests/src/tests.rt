@@ -1,6 +1,6 @@
 //! Requests on two connections, each with its answer. Nothing here promises anything to a proof.
 
-use crate::*;
+use branch_store::*;
 use list_types::{Listed, Text};
 use sql_text::{AggregateCall, Cell, LinkAnswer, LinkRequest, Scan, ScanItems};
 use sql_values::{

@@ -1,7 +1,9 @@
-use crate::{Generator, summary};
+//! Schedules that a seed generates, and what is told of transcripts in short. Nothing here promises anything to a proof.
+
 use catalog::{Catalog, read_catalog};
 use std::alloc::{AllocError, Global};
 use std::test::Fail;
+use workload::{Generator, summary};
 
 /// The table t on a server.
 const CONF: &[u8] =

@@ -1,6 +1,6 @@
 //! Worked examples. Nothing here promises anything to a proof.
 
-use crate::*;
+use front_rows::*;
 use list_types::{Listed, Text};
 use sql_text::LinkAnswer;
 use sql_values::{Row, Rows, Value};

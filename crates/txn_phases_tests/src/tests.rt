@@ -1,6 +1,6 @@
 //! A statement through its phases, by hand.
 
-use crate::*;
+use txn_phases::*;
 use front_rows::{AggFun, Aggregate, Sort};
 use list_types::{Listed, Text};
 use sql_text::{LinkAnswer, LinkRequest, ScanItems};

@@ -3,7 +3,7 @@
 use crate::tests::{
     column, has_cond_of, has_places, is_told, name, plan_with, statement, two_parts,
 };
-use crate::*;
+use stmt_plan::*;
 use list_types::{Listed, Text};
 use part_rules::Rule;
 use sql_text::{Assignment, Assignments, Delete, Select, Statement, Update};

@@ -1,7 +1,7 @@
 //! Plans of SELECTs with ORDER BY, LIMIT and aggregates.
 
 use crate::tests::{plan_with, statement, table, two_parts};
-use crate::*;
+use stmt_plan::*;
 use front_rows::{AggFun, Sort};
 use sql_text::{AggregateCall, ScanItems};
 use sql_values::Kind;

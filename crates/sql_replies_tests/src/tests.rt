@@ -1,6 +1,6 @@
 //! Replies against the texts and bytes that are promised.
 
-use crate::*;
+use sql_replies::*;
 use conf_file::HostEntry;
 use front_rows::{AggFun, Aggregate};
 use list_types::{Listed, Text};

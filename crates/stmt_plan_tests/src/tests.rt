@@ -1,6 +1,6 @@
 //! Worked examples, and each public call with ample memory. Nothing here promises anything to a proof.
 
-use crate::*;
+use stmt_plan::*;
 use list_types::{Listed, Text};
 use part_rules::{Bound, Bounds, Rule};
 use sql_text::{Statement, parse};

@@ -1,4 +1,4 @@
-use super::*;
+use sql_text::*;
 use list_types::Bytes;
 use std::test::*;
 

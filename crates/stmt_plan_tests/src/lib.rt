@@ -1,0 +1,9 @@
+//! Tests of [`stmt_plan`], over the library as it is built: there, a check of them would prove the library once more.
+#![tactic(auto)]
+
+#[cfg(test)]
+mod select_tests;
+#[cfg(test)]
+mod tests;
+#[cfg(test)]
+mod write_tests;
