@@ -3,7 +3,7 @@ use Rattle.std.proofs.Common.{◌≡◌, ◌⊎◌, ℕ, List, Option, Some, Non
 use Rattle.sql_values.specs.declared.table.TableDef.{TableDef}
 use Rattle.part_rules.specs.declared.rule.Rule.{Rule}
 use Rattle.catalog.specs.declared.tables.Table.{Table}
-use Rattle.sql_text.specs.declared.statement.Statement.{Statement}
+use Rattle.sql_text.specs.declared.statement.TableStatement.{TableStatement}
 use Rattle.stmt_plan.specs.declared.fault.StmtFault.{StmtFault}
 use Rattle.stmt_plan.specs.declared.fault.StmtFault.TheVariants.{NoMemory}
 use Rattle.stmt_plan.specs.declared.planned.Plan.{Plan}
@@ -12,7 +12,7 @@ use Rattle.stmt_plan.specs.Refusals.{refusal}
 use Rattle.catalog_plan.specs.declared.fault.PlanFault.TheVariants as told
 use Rattle.catalog_plan.specs.Plans.{table_of, IsFound, IsPlanned, IsRefused}
 
-module _ (tables : List Table) (s : Statement) (name : List ℕ) (named : name ≡ table_of s) (number : ℕ) (def : TableDef) (rule : Rule)
+module _ (tables : List Table) (s : TableStatement) (name : List ℕ) (named : name ≡ table_of s) (number : ℕ) (def : TableDef) (rule : Rule)
     (found : (table : Table) → slice_get tables number ≡ Some table → IsFound tables name number table) where
   found_so : (table : Table) → slice_get tables number ≡ Some table → IsFound tables (table_of s) number table
   found_so table there = subst (λ n. IsFound tables n number table) named (found table there)

@@ -6,20 +6,20 @@ ghost use Rattle.catalog_plan.specs.Plans.{table_of as table_named, IsFound, IsP
 
 use crate::PlanFault;
 use catalog::Catalog;
-use sql_text::Statement;
+use sql_text::TableStatement;
 use sql_values::{Name, TableNo};
 use std::alloc::Global;
 use stmt_plan::{Plan, StmtFault, is_table, plan_on};
 
 /// The table that a statement names.
-fn table_of(statement: &Statement) -> &Name
+fn table_of(statement: &TableStatement) -> &Name
     ensures { result.now ≡ table_named statement.now }
 {
     match statement {
-        Statement::Insert(insert) => &insert.table,
-        Statement::Select(select) => &select.tab.table,
-        Statement::Update(update) => &update.table,
-        Statement::Delete(delete) => &delete.table,
+        TableStatement::Insert(insert) => &insert.table,
+        TableStatement::Select(select) => &select.tab.table,
+        TableStatement::Update(update) => &update.table,
+        TableStatement::Delete(delete) => &delete.table,
     }
 }
 
@@ -39,7 +39,7 @@ fn found(catalog: &Catalog, name: &Name) -> Option<TableNo>
 
 /// The plan of a statement over the catalog's tables, or why it is refused: a name that is no table's before all else, and then the first rule that the
 /// statement breaks on its table, in the order of [`plan_on`].
-pub fn plan(alloc: Global, catalog: &Catalog, statement: &Statement) -> Result<Plan, PlanFault>
+pub fn plan(alloc: Global, catalog: &Catalog, statement: &TableStatement) -> Result<Plan, PlanFault>
     ensures ok { IfOk result (λ plan. IsPlanned catalog.now.tables statement.now plan) }
     ensures err { IfErr result (λ fault. IsRefused catalog.now.tables statement.now fault) }
 {

@@ -11,8 +11,8 @@ use Rattle.catalog.specs.declared.tables.Table.{Table}
 use Rattle.catalog.specs.Views.{View}
 use Rattle.catalog_plan.specs.Plans.{IsFound, IsPlanned, table_of}
 use Rattle.sql_text.specs.declared.link.ScanItems.{ScanItems}
-use Rattle.sql_text.specs.declared.statement.Statement.{Statement}
-use Rattle.sql_text.specs.declared.statement.Statement.TheVariants as statement
+use Rattle.sql_text.specs.declared.statement.TableStatement.{TableStatement}
+use Rattle.sql_text.specs.declared.statement.TableStatement.TheVariants as statement
 use Rattle.stmt_plan.specs.declared.planned.Plan.{Plan}
 use Rattle.stmt_plan.specs.declared.planned.Work.{Work}
 use Rattle.stmt_plan.specs.Inserts.{in_keys, key_name, row_key, rows_of}
@@ -32,7 +32,7 @@ use Rattle.front_core.proofs.Parting.{parts_are}
 use Rattle.front_core.proofs.Rising.{rising_is}
 
 -- the condition
-cond_is : (def : TableDef) (s : Statement) (cond : Option Cond) → IsPushed def s cond → cond ≡ pushed def s
+cond_is : (def : TableDef) (s : TableStatement) (cond : Option Cond) → IsPushed def s cond → cond ≡ pushed def s
 cond_is def (statement.Insert insert) cond asks =
     asks.in_list ∙ ap (λ l. Some (in_keys def l)) (rising_is asks.list (map (row_key def.key) (rows_of def insert.columns insert.rows)) asks.rising)
 cond_is def (statement.Select select) cond is = is
@@ -50,7 +50,7 @@ abbrev run_with : View → TxNo → Table → ℕ → List ℕ → ScanItems →
 run_with catalog tx table number parts items cond limit mode work =
     record { tx = tx; table = number; columns = columns_by work; job = job_with catalog tx table parts items cond limit mode work }
 
-module _ (catalog : View) (s : Statement) (table : Table) (number : ℕ) (plan : Plan) (is : IsPlan number table.def table.rule s plan) (is_rule : IsRule table.rule) (ends : AreBigInts plan.keys) where
+module _ (catalog : View) (s : TableStatement) (table : Table) (number : ℕ) (plan : Plan) (is : IsPlan number table.def table.rule s plan) (is_rule : IsRule table.rule) (ends : AreBigInts plan.keys) where
   cond_same : plan.cond ≡ pushed table.def s
   cond_same = cond_is table.def s plan.cond is.cond
 
@@ -79,7 +79,7 @@ module _ (catalog : View) (s : Statement) (table : Table) (number : ℕ) (plan :
   draws_is drawn = ap (λ (run : Running). drawn_by (drawn == 2 ^ 64 - 1) drawn run) (run_is (tx_of (drawn + 1)))
 
 -- a statement that has a plan draws a number
-pub planned_draws : (catalog : View) (s : Statement) (plan : Plan) (table : Table) (drawn : ℕ) → IsPlanned catalog.tables s plan → slice_get catalog.tables plan.table ≡ Some table →
+pub planned_draws : (catalog : View) (s : TableStatement) (plan : Plan) (table : Table) (drawn : ℕ) → IsPlanned catalog.tables s plan → slice_get catalog.tables plan.table ≡ Some table →
     IsRule table.rule → AreBigInts plan.keys → draws catalog drawn table plan ≡ begins_at catalog drawn s (table_named catalog.tables (table_of s))
 planned_draws catalog s plan table drawn is at is_rule ends =
     let both : Some is.table ≡ Some table = sym is.found.at ∙ (ap (slice_get catalog.tables) (sym is.planned.table_is) ∙ at) in
@@ -91,7 +91,7 @@ planned_draws catalog s plan table drawn is at is_rule ends =
     ∙ sym (ap (begins_at catalog drawn s) (found_is_named catalog.tables (table_of s) is.number table found) ∙ ap (begins_on catalog drawn s is.number table) passes)
 
 -- the table of a plan stands at its number
-pub planned_at : (tables : List Table) (s : Statement) (plan : Plan) (table : Table) → IsPlanned tables s plan → table ≡ get_or tables plan.table table → slice_get tables plan.table ≡ Some table
+pub planned_at : (tables : List Table) (s : TableStatement) (plan : Plan) (table : Table) → IsPlanned tables s plan → table ≡ get_or tables plan.table table → slice_get tables plan.table ≡ Some table
 planned_at tables s plan table is there =
     let at : slice_get tables plan.table ≡ Some is.table = ap (slice_get tables) is.planned.table_is ∙ is.found.at in
     slice_get_read tables (length tables) plan.table table refl (slice_get_within tables plan.table is.table at) there

@@ -9,8 +9,8 @@ use Rattle.sql_values.specs.declared.table.TableDef.{TableDef}
 use Rattle.sql_values.specs.declared.tree.Cond.{Cond}
 use Rattle.part_rules.specs.declared.rule.Rule.{Rule}
 use Rattle.part_rules.specs.Placing.{part, part_count}
-use Rattle.sql_text.specs.declared.statement.Statement.{Statement}
-use Rattle.sql_text.specs.declared.statement.Statement.TheVariants as statement
+use Rattle.sql_text.specs.declared.statement.TableStatement.{TableStatement}
+use Rattle.sql_text.specs.declared.statement.TableStatement.TheVariants as statement
 use Rattle.stmt_plan.specs.Inserts.{rows_of, row_key, in_keys}
 use Rattle.stmt_plan.specs.Plans.{keeps_key}
 use Rattle.stmt_plan.specs.Selects.{unqualified}
@@ -23,7 +23,7 @@ abbrev pub rising : List ℤ → List ℤ
 rising keys = keys_of (fold add_key [] keys)
 
 -- an INSERT asks for the rows with its keys, every other statement for those of its WHERE, in which columns stand without their table
-abbrev pub pushed : TableDef → Statement → Option Cond
+abbrev pub pushed : TableDef → TableStatement → Option Cond
 pushed def (statement.Insert insert) = Some (in_keys def (rising (map (row_key def.key) (rows_of def insert.columns insert.rows))))
 pushed def (statement.Select select) = option_map unqualified select.cond
 pushed def (statement.Update update) = option_map unqualified update.cond
@@ -46,5 +46,5 @@ unfoldable pub parts_with : Rule → (ℤ → Bool) → List ℕ
 parts_with rule test = filter (owns rule test) (range_with_len 0 (part_count rule))
 
 -- the partitions that a statement asks: those with a key that its condition keeps
-abbrev pub parts_asked : TableDef → Rule → Statement → List ℕ
+abbrev pub parts_asked : TableDef → Rule → TableStatement → List ℕ
 parts_asked def rule s = parts_with rule (keeps_key def (pushed def s))

@@ -12,6 +12,8 @@ use Rattle.catalog.specs.Views.{View, table_name}
 use Rattle.sql_text.specs.declared.fault.ParseFault.{ParseFault}
 use Rattle.sql_text.specs.declared.link.LinkAnswer.{LinkAnswer}
 use Rattle.sql_text.specs.declared.statement.Statement.{Statement}
+use Rattle.sql_text.specs.declared.statement.Statement.TheVariants as client
+use Rattle.sql_text.specs.declared.statement.TableStatement.{TableStatement}
 use Rattle.sql_text.specs.Parsing.{parsed}
 use Rattle.stmt_plan.specs.declared.fault.StmtFault.{StmtFault}
 use Rattle.stmt_plan.specs.declared.planned.AnswerColumns.{AnswerColumns}
@@ -23,6 +25,7 @@ use Rattle.stmt_plan.specs.Plans.{work_of as work_planned}
 use Rattle.stmt_plan.specs.Refusals.{refusal}
 use Rattle.catalog_plan.specs.Plans.{table_of}
 use Rattle.my_messages.specs.declared.reply.Reply.{Reply}
+use Rattle.sql_replies.specs.Admin.{admin_reply}
 use Rattle.sql_replies.specs.Errors.{no_memory_reply, no_table_reply, log_full_reply, limit_reply, parse_reply, plan_reply}
 use Rattle.front_rows.specs.Cells.{Cell}
 use Rattle.sql_replies.specs.Outcomes.{outcome_reply, are_short_rows, is_short_cell}
@@ -183,7 +186,7 @@ table_at tables number = option_and_then (λ (table : Table). if is_table table.
 abbrev pub table_named : List Table → List ℕ → Option (ℕ × Table)
 table_named tables name = option_and_then (table_at tables) (place_in (map table_name tables) name)
 
-abbrev pub new_run : View → TxNo → ℕ → Table → Statement → Running
+abbrev pub new_run : View → TxNo → ℕ → Table → TableStatement → Running
 new_run catalog tx number table s = record { tx = tx; table = number; columns = columns_by (work_planned table.def s); job = job_of catalog tx table s }
 
 abbrev pub started : ℕ → Work × List Output → Stepped
@@ -193,18 +196,23 @@ abbrev pub starts : View → ℕ → Running → Stepped
 starts catalog drawn run = started drawn (goes_on catalog run (job_begins run.job))
 
 -- a number is drawn for a statement that breaks no rule. None is left past 2^64 - 1
-abbrev pub begins_on : View → ℕ → Statement → ℕ → Table → Option StmtFault → Stepped
+abbrev pub begins_on : View → ℕ → TableStatement → ℕ → Table → Option StmtFault → Stepped
 begins_on catalog drawn s number table (Some fault) = answers drawn (plan_reply fault)
 begins_on catalog drawn s number table None =
     if drawn == 2 ^ 64 - 1 then answers drawn log_full_reply else starts catalog (drawn + 1) (new_run catalog (tx_of (drawn + 1)) number table s)
 
-abbrev pub begins_at : View → ℕ → Statement → Option (ℕ × Table) → Stepped
+abbrev pub begins_at : View → ℕ → TableStatement → Option (ℕ × Table) → Stepped
 begins_at catalog drawn s None = answers drawn (no_table_reply (table_of s))
 begins_at catalog drawn s (Some (number, table)) = begins_on catalog drawn s number table (refusal table.def table.rule s)
 
+-- a question about the server is answered at once, from the configuration
+abbrev pub begins_one : View → ℕ → Statement → Stepped
+begins_one catalog drawn (client.Table s) = begins_at catalog drawn s (table_named catalog.tables (table_of s))
+begins_one catalog drawn (client.Admin admin) = answers drawn (admin_reply (map table_name catalog.tables) admin)
+
 abbrev pub begins_by : View → ℕ → Result Statement ParseFault → Stepped
 begins_by catalog drawn (Err fault) = answers drawn (parse_reply fault)
-begins_by catalog drawn (Ok s) = begins_at catalog drawn s (table_named catalog.tables (table_of s))
+begins_by catalog drawn (Ok s) = begins_one catalog drawn s
 
 -- a text comes to a session that owes nothing
 abbrev pub begins : View → ℕ → List ℕ → Stepped

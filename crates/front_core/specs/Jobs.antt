@@ -17,7 +17,7 @@ use Rattle.catalog.specs.declared.tables.Part.{Part}
 use Rattle.catalog.specs.declared.tables.Table.{Table}
 use Rattle.catalog.specs.Links.{is_ok}
 use Rattle.catalog.specs.Views.{View}
-use Rattle.sql_text.specs.declared.statement.Statement.{Statement}
+use Rattle.sql_text.specs.declared.statement.TableStatement.{TableStatement}
 use Rattle.stmt_plan.specs.declared.planned.AnswerColumns.{AnswerColumns}
 use Rattle.stmt_plan.specs.declared.planned.AnswerColumns.TheVariants as columns
 use Rattle.stmt_plan.specs.declared.planned.Work.{Work}
@@ -92,7 +92,7 @@ branches_of catalog tx targets = map (branch_at catalog tx) (servers_of (length 
 abbrev pub kinds_of : TableDef → List Kind
 kinds_of def = map (λ (column : ColumnDef). column.kind) def.columns
 
-abbrev pub scan_for : TableDef → Statement → TableScan
+abbrev pub scan_for : TableDef → TableStatement → TableScan
 scan_for def s = record { key = key_name def; place = def.key; kinds = kinds_of def; items = items_of s; cond = pushed def s; limit = limit_of def s; lock = mode_of s }
 
 abbrev pub deed_by : TableDef → Rule → Work → Deed
@@ -109,10 +109,10 @@ columns_by (work.Aggregate list) = Some (columns.Cells list)
 columns_by _ = None
 
 -- the links that a statement asks
-abbrev pub targets_for : Table → Statement → List Target
+abbrev pub targets_for : Table → TableStatement → List Target
 targets_for table s = targets_of (mode_of s) table.parts (parts_asked table.def table.rule s)
 
 -- a statement that breaks no rule on its table, as the transaction of that number
-abbrev pub job_of : View → TxNo → Table → Statement → Job
+abbrev pub job_of : View → TxNo → Table → TableStatement → Job
 job_of catalog tx table s =
     new_job (branches_of catalog tx (targets_for table s)) (targets_for table s) (scan_for table.def s) (deed_by table.def table.rule (work_of table.def s))

@@ -1,11 +1,12 @@
 //! A statement's text.
-ghost use Rattle.std.specs.Prelude.{◌≡◌, ◌<◌, ◌^◌, ◌-◌, ◌∷◌, [], None, FitsSigned, IfOk, length};
+ghost use Rattle.std.specs.Prelude.{◌≡◌, ◌<◌, ◌^◌, ◌-◌, ◌∷◌, [], None, FitsSigned, IfOk, length, map};
 ghost use Rattle.std.specs.Int.{w64};
 ghost use Rattle.my_messages.specs.Reply.{HasBytes};
 ghost use Rattle.part_rules.specs.Placing.{IsRule};
 ghost use Rattle.sql_values.specs.KeySets.{AreBigInts};
+ghost use Rattle.catalog.specs.Views.{table_name};
 ghost use Rattle.catalog_plan.specs.Plans.{IsRefused, table_of};
-ghost use Rattle.front_core.specs.Core.{answers, begins, begins_at, table_named};
+ghost use Rattle.front_core.specs.Core.{answers, begins, begins_at, begins_one, table_named};
 ghost use Rattle.front_core.specs.Outputs.{AnswersHaveBytes};
 ghost use Rattle.front_core.specs.Planned.{draws, is_no_memory as starves};
 
@@ -18,9 +19,9 @@ use catalog::{Catalog, Table};
 use catalog_plan::{PlanFault, plan};
 use list_types::Listed;
 use my_messages::Reply;
-use sql_replies::{log_full, no_table, parse_reply, plan_reply};
-use sql_text::{ParseFault, Statement, parse};
-use sql_values::Interval;
+use sql_replies::{admin_reply, log_full, no_table, parse_reply, plan_reply};
+use sql_text::{ParseFault, Statement, TableStatement, parse};
+use sql_values::{Interval, Name};
 use std::alloc::{AllocError, Global};
 use stmt_plan::{Plan, StmtFault};
 
@@ -81,7 +82,7 @@ fn refuse(
     alloc: Global,
     catalog: &Catalog,
     drawn: u64,
-    statement: &Statement,
+    statement: &TableStatement,
     fault: PlanFault,
 ) -> Result<Stepped, AllocError>
     requires { IsRefused catalog.now.tables statement.now fault }
@@ -99,12 +100,12 @@ fn refuse(
     }
 }
 
-/// A statement comes to a session that owes nothing.
+/// A statement on tables comes to a session that owes nothing.
 fn begin_statement(
     alloc: Global,
     catalog: &Catalog,
     drawn: u64,
-    statement: &Statement,
+    statement: &TableStatement,
 ) -> Result<Stepped, AllocError>
     ensures step { IfOk result (λ stepped. stepped ≡ begins_at catalog.now drawn statement.now (table_named catalog.now.tables (table_of statement.now))) }
     ensures bytes { IfOk result (λ stepped. AnswersHaveBytes stepped.2) }
@@ -119,6 +120,35 @@ fn begin_statement(
     }
 }
 
+fn table_names(alloc: Global, tables: &[Table]) -> Result<Listed<Name>, AllocError>
+    ensures { IfOk result (λ names. names ≡ map table_name tables.now) }
+{
+    let mut names = Vec::with_capacity(alloc, tables.len())?;
+    for table in tables {
+        names.push(table.def.name.clone()?)?;
+    }
+    Ok(Listed::from_vec(names))
+}
+
+/// A statement comes to a session that owes nothing.
+fn begin_one(
+    alloc: Global,
+    catalog: &Catalog,
+    drawn: u64,
+    statement: &Statement,
+) -> Result<Stepped, AllocError>
+    ensures step { IfOk result (λ stepped. stepped ≡ begins_one catalog.now drawn statement.now) }
+    ensures bytes { IfOk result (λ stepped. AnswersHaveBytes stepped.2) }
+{
+    match statement {
+        Statement::Table(statement) => begin_statement(alloc, catalog, drawn, statement),
+        Statement::Admin(admin) => {
+            let names = table_names(alloc, catalog.tables())?;
+            answered(alloc, drawn, admin_reply(alloc, names.as_slice(), *admin)?)
+        }
+    }
+}
+
 /// A text comes to a session that owes nothing. After want of memory no number was drawn, and nothing was asked.
 pub(crate) fn begin(
     alloc: Global,
@@ -130,7 +160,7 @@ pub(crate) fn begin(
     ensures bytes { IfOk result (λ stepped. AnswersHaveBytes stepped.2) }
 {
     match parse(alloc, text) {
-        Ok(statement) => begin_statement(alloc, catalog, drawn, &statement),
+        Ok(statement) => begin_one(alloc, catalog, drawn, &statement),
         Err(ParseFault::NoMemory) => Err(AllocError),
         Err(fault) => answered(alloc, drawn, parse_reply(alloc, &fault)?),
     }

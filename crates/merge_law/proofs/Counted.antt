@@ -17,8 +17,8 @@ use Rattle.sql_text.specs.declared.statement.AggregateItem.{AggregateItem}
 use Rattle.sql_text.specs.declared.statement.Select.{Select}
 use Rattle.sql_text.specs.declared.statement.SelectItems.{SelectItems}
 use Rattle.sql_text.specs.declared.statement.SelectItems.TheVariants as items
-use Rattle.sql_text.specs.declared.statement.Statement.{Statement}
-use Rattle.sql_text.specs.declared.statement.Statement.TheVariants as statement
+use Rattle.sql_text.specs.declared.statement.TableStatement.{TableStatement}
+use Rattle.sql_text.specs.declared.statement.TableStatement.TheVariants as statement
 use Rattle.front_rows.specs.declared.aggregate.Aggregate.{Aggregate}
 use Rattle.front_rows.specs.Aggregates.{can_merge, is_part, merged_results, over}
 use Rattle.front_rows.specs.Laws.{AreSuited, CanStand, cells_answers}
@@ -48,7 +48,7 @@ calls_in : List AggregateItem → List AggregateCall
 calls_in list = map (λ (item : AggregateItem). item.call) list
 
 -- the statement asks for these calls, on columns that the table has under the name by which it knows that
-pub record AsksCalls (def : TableDef) (s : Statement) (calls : List AggregateCall) : Type 0 where
+pub record AsksCalls (def : TableDef) (s : TableStatement) (calls : List AggregateCall) : Type 0 where
   pub name : List ℕ
   pub list : List AggregateItem
   pub calls_are : map (λ (item : AggregateItem). bare_call item.call) list ≡ calls
@@ -92,7 +92,7 @@ sums_fit : (fits : Bool) (rest : Option StmtFault) → cond {A = Option StmtFaul
 sums_fit true rest none = refl
 sums_fit false rest none = let never : Some TypeMismatch ≡ None = none in cc
 
-pub asks_calls : (def : TableDef) (s : Statement) (calls : List AggregateCall) → items_of s ≡ Aggregates calls → no_column def s ≡ None → mismatch def s ≡ None → AsksCalls def s calls
+pub asks_calls : (def : TableDef) (s : TableStatement) (calls : List AggregateCall) → items_of s ≡ Aggregates calls → no_column def s ≡ None → mismatch def s ≡ None → AsksCalls def s calls
 asks_calls def (statement.Insert insert) calls asks known fits = let never : All ≡ Aggregates calls = asks in cc
 asks_calls def (statement.Update update) calls asks known fits = let never : All ≡ Aggregates calls = asks in cc
 asks_calls def (statement.Delete delete) calls asks known fits = let never : All ≡ Aggregates calls = asks in cc
@@ -111,7 +111,7 @@ asks_calls def (statement.Select select) calls asks known fits =
     }
 
 -- a statement that isn't refused
-pub not_refused : (def : TableDef) (rule : Rule) (s : Statement) → refusal def rule s ≡ None → (no_column def s ≡ None) × (mismatch def s ≡ None)
+pub not_refused : (def : TableDef) (rule : Rule) (s : TableStatement) → refusal def rule s ≡ None → (no_column def s ≡ None) × (mismatch def s ≡ None)
 not_refused def rule s passes =
     let first = both_none (no_column def s) _ passes in
     let second = both_none (ambiguous def s) _ first.1 in
@@ -140,10 +140,10 @@ module _ (def : TableDef) (name : List ℕ) where
   all_meant (item ∷ list) meant = (meant.0, all_meant list meant.1)
 
 -- the answer's aggregates are those that are asked for
-pub asked_alike : (def : TableDef) (s : Statement) (calls : List AggregateCall) (asks : AsksCalls def s calls) → aggregates_of (map (cell_column (called def asks.name)) asks.list) ≡ map (aggregate_of def) calls
+pub asked_alike : (def : TableDef) (s : TableStatement) (calls : List AggregateCall) (asks : AsksCalls def s calls) → aggregates_of (map (cell_column (called def asks.name)) asks.list) ≡ map (aggregate_of def) calls
 asked_alike def s calls asks = columns_alike def asks.name asks.list ∙ sym (bare_alike def asks.name asks.list asks.meant) ∙ ap (map (aggregate_of def)) asks.calls_are
 
-asked_suit : (def : TableDef) (s : Statement) (calls : List AggregateCall) (asks : AsksCalls def s calls) (rows : List Row) → AllByRecursion (FitsColumns def) rows → AreSuited (map (aggregate_of def) calls) rows
+asked_suit : (def : TableDef) (s : TableStatement) (calls : List AggregateCall) (asks : AsksCalls def s calls) (rows : List Row) → AllByRecursion (FitsColumns def) rows → AreSuited (map (aggregate_of def) calls) rows
 asked_suit def s calls asks rows fit =
     let known = called def asks.name in
     let same = map-map (λ (item : AggregateItem). item.call) (aggregate_of known) asks.list ∙ sym (bare_alike def asks.name asks.list asks.meant) ∙ ap (map (aggregate_of def)) asks.calls_are in
@@ -177,13 +177,13 @@ module _ (def : TableDef) (rule : Rule) (plan : Plan) (rows : List Row) (fit : A
   all_stand (p ∷ parts) = (rows_stand def (found_in def rule plan rows p) (found_fit p), all_stand parts)
 
 -- all of them are those of the table in another order
-pub all_permuted : (number : ℕ) (def : TableDef) (rule : Rule) (s : Statement) (plan : Plan) (rows : List Row) → IsDefinition def → IsTable def rule rows → IsPlan number def rule s plan
+pub all_permuted : (number : ℕ) (def : TableDef) (rule : Rule) (s : TableStatement) (plan : Plan) (rows : List Row) → IsDefinition def → IsTable def rule rows → IsPlan number def rule s plan
     → IsPermutation (flat_map (λ found. found) (all_found def rule plan rows)) (kept def plan.cond rows)
 all_permuted number def rule s plan rows is table planned =
     subst (λ l. IsPermutation l (kept def plan.cond rows)) (sym (flat_map-map (λ (found : List Row). found) (found_in def rule plan rows) plan.parts))
     (found_permuted def rule rows plan.cond plan.keys plan.parts (own_key def is) table planned.keys planned.parts)
 
-are_counted : (number : ℕ) (def : TableDef) (rule : Rule) (s : Statement) (plan : Plan) (calls : List AggregateCall) (rows : List Row) → IsDefinition def → IsTable def rule rows
+are_counted : (number : ℕ) (def : TableDef) (rule : Rule) (s : TableStatement) (plan : Plan) (calls : List AggregateCall) (rows : List Row) → IsDefinition def → IsTable def rule rows
     → AllByRecursion (FitsColumns def) rows → AsksCalls def s calls → IsPlan number def rule s plan → AreCounted (map (aggregate_of def) calls) (all_found def rule plan rows)
 are_counted number def rule s plan calls rows is table fit asks planned =
     let permuted = all_permuted number def rule s plan rows is table planned in
@@ -206,7 +206,7 @@ cells_of_parts def rule plan calls rows pushed all =
     ∙ ap (λ limit. map (λ p. answer_of def (Aggregates calls) limit (found_in def rule plan rows p)) plan.parts) all
     ∙ sym (map-map (found_in def rule plan rows) (answer_of def (Aggregates calls) None) plan.parts)
 
-pub asks_by_plan : (number : ℕ) (def : TableDef) (rule : Rule) (s : Statement) (plan : Plan) (calls : List AggregateCall) → refusal def rule s ≡ None → IsPlan number def rule s plan → plan.pushed ≡ Aggregates calls → AsksCalls def s calls
+pub asks_by_plan : (number : ℕ) (def : TableDef) (rule : Rule) (s : TableStatement) (plan : Plan) (calls : List AggregateCall) → refusal def rule s ≡ None → IsPlan number def rule s plan → plan.pushed ≡ Aggregates calls → AsksCalls def s calls
 asks_by_plan number def rule s plan calls passes planned pushed =
     let rules = not_refused def rule s passes in
     asks_calls def s calls (sym planned.items ∙ pushed) rules.0 rules.1

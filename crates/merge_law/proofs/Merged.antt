@@ -9,8 +9,8 @@ use Rattle.sql_text.specs.declared.statement.AggregateItem.{AggregateItem}
 use Rattle.sql_text.specs.declared.statement.Select.{Select}
 use Rattle.sql_text.specs.declared.statement.SelectItems.{SelectItems}
 use Rattle.sql_text.specs.declared.statement.SelectItems.TheVariants as items
-use Rattle.sql_text.specs.declared.statement.Statement.{Statement}
-use Rattle.sql_text.specs.declared.statement.Statement.TheVariants as statement
+use Rattle.sql_text.specs.declared.statement.TableStatement.{TableStatement}
+use Rattle.sql_text.specs.declared.statement.TableStatement.TheVariants as statement
 use Rattle.front_rows.specs.Aggregates.{merged_results, over}
 use Rattle.front_rows.proofs.Aggregated.{map-map}
 use Rattle.stmt_plan.specs.declared.planned.CellColumn.{CellColumn}
@@ -33,7 +33,7 @@ abbrev Concludes : TableDef → Rule → Plan → List Row → Work → Type 0
 Concludes def rule plan rows w = finished def w (arranged_by w (kept def plan.cond rows)) ≡ concluded def w (part_answers def rule plan rows)
 
 -- the statement is a SELECT of aggregates
-of_aggregates : (number : ℕ) (def : TableDef) (rule : Rule) (s : Statement) (plan : Plan) (calls : List AggregateCall) (rows : List Row) → IsDefinition def → IsTable def rule rows → AllByRecursion (FitsColumns def) rows
+of_aggregates : (number : ℕ) (def : TableDef) (rule : Rule) (s : TableStatement) (plan : Plan) (calls : List AggregateCall) (rows : List Row) → IsDefinition def → IsTable def rule rows → AllByRecursion (FitsColumns def) rows
     → refusal def rule s ≡ None → IsPlan number def rule s plan → plan.pushed ≡ Aggregates calls → Concludes def rule plan rows plan.work
 of_aggregates number def rule s plan calls rows is table fit passes planned pushed =
     let asks = asks_by_plan number def rule s plan calls passes planned pushed in
@@ -59,7 +59,7 @@ select_concludes number def rule select plan rows (items.Aggregates list) is tab
     subst (Concludes def rule plan rows) works
     (of_aggregates number def rule (statement.Select select) plan (map (λ (item : AggregateItem). bare_call item.call) list) rows is table fit passes planned pushed)
 
-concludes : (number : ℕ) (def : TableDef) (rule : Rule) (s : Statement) (plan : Plan) (rows : List Row) → IsDefinition def → IsTable def rule rows → AllByRecursion (FitsColumns def) rows
+concludes : (number : ℕ) (def : TableDef) (rule : Rule) (s : TableStatement) (plan : Plan) (rows : List Row) → IsDefinition def → IsTable def rule rows → AllByRecursion (FitsColumns def) rows
     → refusal def rule s ≡ None → IsPlan number def rule s plan → Concludes def rule plan rows (work_of def s)
 concludes number def rule (statement.Insert insert) plan rows is table fit passes planned =
     ap (finished def (work_of def (statement.Insert insert))) (sym (merges number def rule (statement.Insert insert) plan rows is table planned planned.items))

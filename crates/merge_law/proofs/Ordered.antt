@@ -17,8 +17,8 @@ use Rattle.sql_text.specs.declared.statement.Select.{Select}
 use Rattle.sql_text.specs.declared.statement.SelectItems.{SelectItems}
 use Rattle.sql_text.specs.declared.statement.SelectItems.TheVariants as items
 use Rattle.sql_text.specs.declared.statement.SortItem.{SortItem}
-use Rattle.sql_text.specs.declared.statement.Statement.{Statement}
-use Rattle.sql_text.specs.declared.statement.Statement.TheVariants as statement
+use Rattle.sql_text.specs.declared.statement.TableStatement.{TableStatement}
+use Rattle.sql_text.specs.declared.statement.TableStatement.TheVariants as statement
 use Rattle.front_rows.specs.declared.order.Sort.{Sort}
 use Rattle.front_rows.specs.Comparing.{before}
 use Rattle.front_rows.specs.Gathering.{all_rows, answer_rows}
@@ -84,7 +84,7 @@ key_sorts known (item ∷ order) keys =
 
 -- WHAT PARTITIONS ANSWER
 
-module _ (number : ℕ) (def : TableDef) (rule : Rule) (s : Statement) (plan : Plan) (rows : List Row) (is : IsDefinition def) (table : IsTable def rule rows) (planned : IsPlan number def rule s plan) where
+module _ (number : ℕ) (def : TableDef) (rule : Rule) (s : TableStatement) (plan : Plan) (rows : List Row) (is : IsDefinition def) (table : IsTable def rule rows) (planned : IsPlan number def rule s plan) where
   abbrev found : List Row
   found = kept def plan.cond rows
 
@@ -168,7 +168,7 @@ select_merges number def rule select plan rows (items.Columns list) is table pla
 select_merges number def rule select plan rows (items.Aggregates list) is table planned pushed limited =
     by_keys number def rule (statement.Select select) plan rows is table planned pushed limited
 
-pub merges : (number : ℕ) (def : TableDef) (rule : Rule) (s : Statement) (plan : Plan) (rows : List Row) → IsDefinition def → IsTable def rule rows → IsPlan number def rule s plan → plan.pushed ≡ All
+pub merges : (number : ℕ) (def : TableDef) (rule : Rule) (s : TableStatement) (plan : Plan) (rows : List Row) → IsDefinition def → IsTable def rule rows → IsPlan number def rule s plan → plan.pushed ≡ All
     → Merges def rule plan rows (work_of def s)
 merges number def rule (statement.Insert insert) plan rows is table planned pushed = by_keys number def rule (statement.Insert insert) plan rows is table planned pushed planned.limit_is
 merges number def rule (statement.Select select) plan rows is table planned pushed = select_merges number def rule select plan rows select.items is table planned pushed planned.limit_is

@@ -6,7 +6,7 @@ use Rattle.part_rules.specs.declared.rule.Rule.{Rule}
 use Rattle.sql_text.specs.declared.link.AggregateCall.{AggregateCall}
 use Rattle.sql_text.specs.declared.link.LinkAnswer.{LinkAnswer}
 use Rattle.sql_text.specs.declared.link.ScanItems.TheVariants.{All, Aggregates}
-use Rattle.sql_text.specs.declared.statement.Statement.{Statement}
+use Rattle.sql_text.specs.declared.statement.TableStatement.{TableStatement}
 use Rattle.front_rows.specs.Aggregates.{can_merge, is_part, merged_results, over}
 use Rattle.front_rows.specs.Merging.{key_order, merged_rows}
 use Rattle.stmt_plan.specs.declared.planned.Plan.{Plan}
@@ -48,32 +48,32 @@ concluded def w parts = finished def w (gathered def w parts)
 -- the rows are those that the condition keeps of the plain table, though each partition gave only its first rows where that is enough
 abbrev pub RowsAreMerged : Type 0
 RowsAreMerged =
-    (number : ℕ) (def : TableDef) (rule : Rule) (s : Statement) (plan : Plan) (rows : List Row) → IsDefinition def → IsTable def rule rows → IsPlan number def rule s plan → plan.pushed ≡ All →
+    (number : ℕ) (def : TableDef) (rule : Rule) (s : TableStatement) (plan : Plan) (rows : List Row) → IsDefinition def → IsTable def rule rows → IsPlan number def rule s plan → plan.pushed ≡ All →
     gathered def plan.work (part_answers def rule plan rows) ≡ arranged_by plan.work (kept def plan.cond rows)
 
 -- the aggregates are those over these rows
 abbrev pub AggregatesAreMerged : Type 0
 AggregatesAreMerged =
-    (number : ℕ) (def : TableDef) (rule : Rule) (s : Statement) (plan : Plan) (calls : List AggregateCall) (rows : List Row) → IsDefinition def → IsTable def rule rows →
+    (number : ℕ) (def : TableDef) (rule : Rule) (s : TableStatement) (plan : Plan) (calls : List AggregateCall) (rows : List Row) → IsDefinition def → IsTable def rule rows →
     AllByRecursion (FitsColumns def) rows → refusal def rule s ≡ None → IsPlan number def rule s plan → plan.pushed ≡ Aggregates calls →
     merged_results (map (aggregate_of def) calls) (part_answers def rule plan rows) ≡ map (λ call. over (kept def plan.cond rows) (aggregate_of def call)) calls
 
 -- each partition's answer is one that these aggregates may give
 abbrev pub AggregatesFit : Type 0
 AggregatesFit =
-    (number : ℕ) (def : TableDef) (rule : Rule) (s : Statement) (plan : Plan) (calls : List AggregateCall) (rows : List Row) → IsDefinition def → IsTable def rule rows →
+    (number : ℕ) (def : TableDef) (rule : Rule) (s : TableStatement) (plan : Plan) (calls : List AggregateCall) (rows : List Row) → IsDefinition def → IsTable def rule rows →
     AllByRecursion (FitsColumns def) rows → refusal def rule s ≡ None → IsPlan number def rule s plan → plan.pushed ≡ Aggregates calls →
     AllByRecursion (λ answer. is_part (map (aggregate_of def) calls) answer ≡ true) (part_answers def rule plan rows)
 
 -- and all of them can be merged: no sum passes 128 bits
 abbrev pub AggregatesCanMerge : Type 0
 AggregatesCanMerge =
-    (number : ℕ) (def : TableDef) (rule : Rule) (s : Statement) (plan : Plan) (calls : List AggregateCall) (rows : List Row) → IsDefinition def → IsTable def rule rows →
+    (number : ℕ) (def : TableDef) (rule : Rule) (s : TableStatement) (plan : Plan) (calls : List AggregateCall) (rows : List Row) → IsDefinition def → IsTable def rule rows →
     AllByRecursion (FitsColumns def) rows → refusal def rule s ≡ None → IsPlan number def rule s plan → plan.pushed ≡ Aggregates calls →
     can_merge (map (aggregate_of def) calls) (part_answers def rule plan rows) ≡ true
 
 -- a statement that isn't refused is what it makes of the answers of its plan's partitions
 abbrev pub StatementsAreMerged : Type 0
 StatementsAreMerged =
-    (number : ℕ) (def : TableDef) (rule : Rule) (s : Statement) (plan : Plan) (rows : List Row) → IsDefinition def → IsTable def rule rows → AllByRecursion (FitsColumns def) rows →
+    (number : ℕ) (def : TableDef) (rule : Rule) (s : TableStatement) (plan : Plan) (rows : List Row) → IsDefinition def → IsTable def rule rows → AllByRecursion (FitsColumns def) rows →
     refusal def rule s ≡ None → IsPlan number def rule s plan → executed def rule s rows ≡ applied def rows (concluded def plan.work (part_answers def rule plan rows))

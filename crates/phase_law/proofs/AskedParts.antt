@@ -16,7 +16,7 @@ use Rattle.part_rules.specs.Keeps.{keeps, layer_keeps, names_key, is_listed}
 use Rattle.part_rules.specs.KeyRows.{HasOwnKeyName}
 use Rattle.part_rules.specs.Placing.{part}
 use Rattle.sql_text.specs.declared.statement.Insert.{Insert}
-use Rattle.sql_text.specs.declared.statement.Statement.TheVariants as statement
+use Rattle.sql_text.specs.declared.statement.TableStatement.TheVariants as statement
 use Rattle.stmt_plan.specs.Inserts.{rows_of, row_key, key_name, in_keys}
 use Rattle.stmt_plan.specs.Plans.{keeps_key}
 use Rattle.plain_tables.specs.Inserts.{put_all, without, AreRows}

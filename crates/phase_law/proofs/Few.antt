@@ -8,7 +8,7 @@ use Rattle.std.proofs.lemmas.List.FromFn.{length-range_with_len}
 use Rattle.sql_values.specs.declared.places.LockMode.{LockMode}
 use Rattle.sql_values.specs.declared.places.LockMode.TheVariants.{Shared, Exclusive}
 use Rattle.sql_values.specs.declared.table.TableDef.{TableDef}
-use Rattle.sql_text.specs.declared.statement.Statement.{Statement}
+use Rattle.sql_text.specs.declared.statement.TableStatement.{TableStatement}
 use Rattle.part_rules.specs.declared.rule.Rule.{Rule}
 use Rattle.part_rules.specs.Placing.{part_count}
 use Rattle.catalog.specs.declared.link.Link.{Link}
@@ -107,7 +107,7 @@ few_targets mode parts [] four = omega arith
 few_targets mode parts (p ∷ ps) four =
     omega (arith, length-append (part_targets mode parts p) (targets_of mode parts ps), length-map (links_asked mode (links_at parts p)) (target_at p), few_asked mode (links_at parts p), four p, few_targets mode parts ps four)
 
-few_parts : (def : TableDef) (rule : Rule) (s : Statement) → length (parts_asked def rule s) ≤ part_count rule
+few_parts : (def : TableDef) (rule : Rule) (s : TableStatement) → length (parts_asked def rule s) ≤ part_count rule
 unfolding parts_with
 few_parts def rule s = omega (arith, fewer (owns rule (keeps_key def (pushed def s))) (range_with_len 0 (part_count rule)), length-range_with_len 0 (part_count rule))
 
@@ -123,7 +123,7 @@ few_writes key [] w = omega arith
 few_writes key (t ∷ targets) w = omega (arith, length-append (request_of key t (w t.part)) (requests_of key targets w), few_write key t (w t.part), few_writes key targets w)
 
 -- there are fewer links than a phase may have requests
-pub few_links : (servers : ℕ) (table : Table) (s : Statement) → IsTable servers table → length (targets_for table s) ≤ 2 ^ 35
+pub few_links : (servers : ℕ) (table : Table) (s : TableStatement) → IsTable servers table → length (targets_for table s) ≤ 2 ^ 35
 few_links servers table s sound =
     let rule = sound.rule in
     let links = few_targets (mode_of s) table.parts (parts_asked table.def table.rule s) (few_at servers table sound) in

@@ -26,8 +26,8 @@ use Rattle.sql_text.specs.declared.statement.Delete.{Delete}
 use Rattle.sql_text.specs.declared.statement.Select.{Select}
 use Rattle.sql_text.specs.declared.statement.SelectItems.{SelectItems}
 use Rattle.sql_text.specs.declared.statement.SelectItems.TheVariants as items
-use Rattle.sql_text.specs.declared.statement.Statement.{Statement}
-use Rattle.sql_text.specs.declared.statement.Statement.TheVariants as statement
+use Rattle.sql_text.specs.declared.statement.TableStatement.{TableStatement}
+use Rattle.sql_text.specs.declared.statement.TableStatement.TheVariants as statement
 use Rattle.sql_text.specs.declared.statement.Tab.{Tab}
 use Rattle.sql_text.specs.declared.statement.Update.{Update}
 use Rattle.catalog.specs.declared.tables.Table.{Table}
@@ -59,7 +59,7 @@ use Rattle.phase_law.proofs.Scans.{FindsAlike, FitsScan}
 -- RULES THAT ARE KEPT
 
 -- no rule is broken
-pub record Passes (def : TableDef) (rule : Rule) (s : Statement) : Type 0 where
+pub record Passes (def : TableDef) (rule : Rule) (s : TableStatement) : Type 0 where
   pub known : no_column def s ≡ None
   pub key_stays : key_changed def s ≡ None
   pub counted : column_count def s ≡ None
@@ -67,7 +67,7 @@ pub record Passes (def : TableDef) (rule : Rule) (s : Statement) : Type 0 where
   pub placed : no_partition def rule s ≡ None
   pub comparable : mismatch def s ≡ None
 
-pub passes : (def : TableDef) (rule : Rule) (s : Statement) → refusal def rule s ≡ None → Passes def rule s
+pub passes : (def : TableDef) (rule : Rule) (s : TableStatement) → refusal def rule s ≡ None → Passes def rule s
 passes def rule s none =
     let one = both_none (no_column def s) _ none in
     let two = both_none (ambiguous def s) _ one.1 in
@@ -218,7 +218,7 @@ keys_fit def m keys is =
 
 -- THE SCAN
 
-pushed_fits : (def : TableDef) (rule : Rule) (m : List ℕ) (s : Statement) → IsTable def → Passes def rule s → cond_fault (called def m) (pushed def s) ≡ None
+pushed_fits : (def : TableDef) (rule : Rule) (m : List ℕ) (s : TableStatement) → IsTable def → Passes def rule s → cond_fault (called def m) (pushed def s) ≡ None
 pushed_fits def rule m (statement.Insert insert) is pass = keys_fit def m (rising (map (row_key def.key) (rows_of def insert.columns insert.rows))) is
 pushed_fits def rule m (statement.Select select) is pass =
     where_fits def (known_name select.tab) m select.cond is (select_known def select pass.known)
@@ -228,7 +228,7 @@ pushed_fits def rule m (statement.Update update) is pass =
 pushed_fits def rule m (statement.Delete delete) is pass = where_fits def def.name m delete.cond is (delete_known def delete pass.known) pass.comparable
 
 -- so do the aggregates that are asked for
-asked_fit : (def : TableDef) (rule : Rule) (m : List ℕ) (s : Statement) → Passes def rule s → items_fault (called def m) (items_of s) ≡ None
+asked_fit : (def : TableDef) (rule : Rule) (m : List ℕ) (s : TableStatement) → Passes def rule s → items_fault (called def m) (items_of s) ≡ None
 asked_fit def rule m (statement.Insert insert) pass = refl
 asked_fit def rule m (statement.Select select) pass =
     items_known def (known_name select.tab) m select.items (first_known (called def (known_name select.tab) ∷ []) (item_columns select.items) (items_are_known def select pass.known))
@@ -244,7 +244,7 @@ order_fits def m scan.All =
 order_fits def m (scan.Aggregates calls) = refl
 
 -- the scan fits the table of each link
-pub scan_fits : (table : Table) (s : Statement) (t : Target) → IsTable table.def → refusal table.def table.rule s ≡ None → FitsScan table (scan_for table.def s) t
+pub scan_fits : (table : Table) (s : TableStatement) (t : Target) → IsTable table.def → refusal table.def table.rule s ≡ None → FitsScan table (scan_for table.def s) t
 scan_fits table s t is none =
     let pass = passes table.def table.rule s none in
     let last : Option BranchFault = cond_fault (called table.def t.remote) (pushed table.def s) in
@@ -279,14 +279,14 @@ where_keeps def k c rows known = filter_agree (holds_on (called def k) c) (holds
 where_alike : (def : TableDef) (k m : List ℕ) (row : Row) (c : Option Cond) → NoneUnknown def k (where_columns c) → holds_on (called def m) (option_map unqualified c) row ≡ holds_on def (option_map unqualified c) row
 where_alike def k m row c known = where_means (called def m) k row c known ∙ sym (where_means def k row c known)
 
-pushed_alike : (def : TableDef) (rule : Rule) (m : List ℕ) (s : Statement) (row : Row) → IsTable def → Passes def rule s → holds_on (called def m) (pushed def s) row ≡ holds_on def (pushed def s) row
+pushed_alike : (def : TableDef) (rule : Rule) (m : List ℕ) (s : TableStatement) (row : Row) → IsTable def → Passes def rule s → holds_on (called def m) (pushed def s) row ≡ holds_on def (pushed def s) row
 pushed_alike def rule m (statement.Insert insert) row is pass = keys_alike def m (rising (map (row_key def.key) (rows_of def insert.columns insert.rows))) row is
 pushed_alike def rule m (statement.Select select) row is pass = where_alike def (known_name select.tab) m row select.cond (select_known def select pass.known)
 pushed_alike def rule m (statement.Update update) row is pass = where_alike def def.name m row update.cond (update_known def update pass.known)
 pushed_alike def rule m (statement.Delete delete) row is pass = where_alike def def.name m row delete.cond (delete_known def delete pass.known)
 
 -- a link keeps the rows that the table does
-pushed_keeps : (table : Table) (s : Statement) (t : Target) (rows : List Row) → IsTable table.def → refusal table.def table.rule s ≡ None → kept (called table.def t.remote) (pushed table.def s) rows ≡ kept table.def (pushed table.def s) rows
+pushed_keeps : (table : Table) (s : TableStatement) (t : Target) (rows : List Row) → IsTable table.def → refusal table.def table.rule s ≡ None → kept (called table.def t.remote) (pushed table.def s) rows ≡ kept table.def (pushed table.def s) rows
 pushed_keeps table s t rows is none =
     filter_agree (holds_on (called table.def t.remote) (pushed table.def s)) (holds_on table.def (pushed table.def s)) (λ row. pushed_alike table.def table.rule t.remote s row is (passes table.def table.rule s none)) rows
 
@@ -298,14 +298,14 @@ items_alike def m items.All limit rows = refl
 items_alike def m (items.Columns list) limit rows = refl
 items_alike def m (items.Aggregates list) limit rows = ap (λ l. Cells (first_rows limit (cells_over l rows ∷ []))) (calls_alike def m list)
 
-answers_alike : (def : TableDef) (m : List ℕ) (s : Statement) (limit : Option ℕ) (rows : List Row) → answer_of (called def m) (items_of s) limit rows ≡ answer_of def (items_of s) limit rows
+answers_alike : (def : TableDef) (m : List ℕ) (s : TableStatement) (limit : Option ℕ) (rows : List Row) → answer_of (called def m) (items_of s) limit rows ≡ answer_of def (items_of s) limit rows
 answers_alike def m (statement.Insert insert) limit rows = refl
 answers_alike def m (statement.Select select) limit rows = items_alike def m select.items limit rows
 answers_alike def m (statement.Update update) limit rows = refl
 answers_alike def m (statement.Delete delete) limit rows = refl
 
 -- a link answers what the table does
-pub scan_finds : (table : Table) (s : Statement) (t : Target) → IsTable table.def → refusal table.def table.rule s ≡ None → FindsAlike table (scan_for table.def s) t
+pub scan_finds : (table : Table) (s : TableStatement) (t : Target) → IsTable table.def → refusal table.def table.rule s ≡ None → FindsAlike table (scan_for table.def s) t
 scan_finds table s t is none rows =
     ap (answer_of (called table.def t.remote) (items_of s) (limit_of table.def s)) (pushed_keeps table s t rows is none)
     ∙ answers_alike table.def t.remote s (limit_of table.def s) (kept table.def (pushed table.def s) rows)

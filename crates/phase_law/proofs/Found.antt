@@ -15,8 +15,8 @@ use Rattle.sql_text.specs.declared.statement.AggregateItem.{AggregateItem}
 use Rattle.sql_text.specs.declared.statement.Select.{Select}
 use Rattle.sql_text.specs.declared.statement.SelectItems.{SelectItems}
 use Rattle.sql_text.specs.declared.statement.SelectItems.TheVariants as items
-use Rattle.sql_text.specs.declared.statement.Statement.{Statement}
-use Rattle.sql_text.specs.declared.statement.Statement.TheVariants as statement
+use Rattle.sql_text.specs.declared.statement.TableStatement.{TableStatement}
+use Rattle.sql_text.specs.declared.statement.TableStatement.TheVariants as statement
 use Rattle.front_rows.specs.declared.aggregate.Aggregate.{Aggregate}
 use Rattle.front_rows.specs.Aggregates.{can_merge, is_part}
 use Rattle.stmt_plan.specs.declared.planned.Plan.{Plan}
@@ -84,7 +84,7 @@ asks_of def rule select list are none =
 -- THE STATEMENT'S ANSWERS
 
 -- the job of the statement may have what partition p answers
-abbrev pub Answered : Table → List Row → Statement → ℕ → Type 0
+abbrev pub Answered : Table → List Row → TableStatement → ℕ → Type 0
 Answered table rows s p =
     fits_scan (deed_by table.def table.rule (work_of table.def s)) (kinds_of table.def) (answered table.def (items_of s) (pushed table.def s) (limit_of table.def s) (rows_in table.def table.rule p rows)) ≡ true
 
@@ -119,7 +119,7 @@ module _ (number : ℕ) (table : Table) (rows : List Row) (is : IsDefinition tab
         ap (λ w. fits_scan (deed_by table.def table.rule w) (kinds_of table.def) here) asks.work_is
         ∙ (ap (λ l. is_cells l here) (asked_alike table.def (statement.Select select) calls asks) ∙ part_is_cells (map (aggregate_of table.def) calls) here part)
 
-  pub answers_fit : (s : Statement) (keys : List Interval) → refusal table.def table.rule s ≡ None → IsPlan number table.def table.rule s (plan_with number table s keys) → (p : ℕ) → Contains (parts_asked table.def table.rule s) p → Answered table rows s p
+  pub answers_fit : (s : TableStatement) (keys : List Interval) → refusal table.def table.rule s ≡ None → IsPlan number table.def table.rule s (plan_with number table s keys) → (p : ℕ) → Contains (parts_asked table.def table.rule s) p → Answered table rows s p
   answers_fit (statement.Insert insert) keys none planned p c = rows_fit table None (pushed table.def (statement.Insert insert)) p rows fit
   answers_fit (statement.Select select) keys none planned p c = select_answered select keys p none planned c select.items refl
   answers_fit (statement.Update update) keys none planned p c = rows_fit table None (pushed table.def (statement.Update update)) p rows fit

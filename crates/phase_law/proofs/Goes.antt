@@ -23,8 +23,8 @@ use Rattle.sql_text.specs.declared.statement.Insert.{Insert}
 use Rattle.sql_text.specs.declared.statement.Select.{Select}
 use Rattle.sql_text.specs.declared.statement.SelectItems.{SelectItems}
 use Rattle.sql_text.specs.declared.statement.SelectItems.TheVariants as items
-use Rattle.sql_text.specs.declared.statement.Statement.{Statement}
-use Rattle.sql_text.specs.declared.statement.Statement.TheVariants as statement
+use Rattle.sql_text.specs.declared.statement.TableStatement.{TableStatement}
+use Rattle.sql_text.specs.declared.statement.TableStatement.TheVariants as statement
 use Rattle.sql_text.specs.declared.statement.Update.{Update}
 use Rattle.stmt_plan.specs.declared.planned.Selected.{Selected}
 use Rattle.stmt_plan.specs.declared.planned.SetColumn.{SetColumn}
@@ -161,7 +161,7 @@ nothing_open catalog tx = ap (map (branch_at catalog tx)) (none_pass (range_with
     none_pass [] = refl
     none_pass (x ∷ xs) = none_pass xs
 
-module _ (catalog : View) (tables : Tables) (n : ℕ) (tx : TxNo) (number : ℕ) (table : Table) (s : Statement) (served : CanBeServed catalog) (held : AreHeld catalog tables)
+module _ (catalog : View) (tables : Tables) (n : ℕ) (tx : TxNo) (number : ℕ) (table : Table) (s : TableStatement) (served : CanBeServed catalog) (held : AreHeld catalog tables)
     (is : table_named catalog.tables (table_of s) ≡ Some (number, table)) (passes : refusal table.def table.rule s ≡ None) where
   abbrev servers : ℕ
   servers = length catalog.servers
@@ -351,23 +351,23 @@ module _ (catalog : View) (tables : Tables) (n : ℕ) (tx : TxNo) (number : ℕ)
 
 module _ (catalog : View) (tables : Tables) (n : ℕ) (tx : TxNo) (number : ℕ) (table : Table) (served : CanBeServed catalog) (held : AreHeld catalog tables) where
   -- a statement on a table that its name finds, and which breaks no rule
-  abbrev IsOn : Statement → Type 0
+  abbrev IsOn : TableStatement → Type 0
   IsOn s = (table_named catalog.tables (table_of s) ≡ Some (number, table)) × (refusal table.def table.rule s ≡ None)
 
   abbrev rows : List Row
   rows = tables number
 
-  abbrev rows_held : (s : Statement) → IsOn s → IsHeld table rows
+  abbrev rows_held : (s : TableStatement) → IsOn s → IsHeld table rows
   rows_held s on = held number table (named catalog tables n tx number table s served held on.0 on.1).at
 
-  own : (s : Statement) → IsOn s → HasOwnKeyName table.def
+  own : (s : TableStatement) → IsOn s → HasOwnKeyName table.def
   own s on = own_key table.def (sound catalog tables n tx number table s served held on.0 on.1)
 
   -- the keys for which it asks, as a list of intervals
-  abbrev asked_keys : Statement → List Interval
+  abbrev asked_keys : TableStatement → List Interval
   asked_keys s = singles (keeps_key table.def (pushed table.def s))
 
-  abbrev asked_are : (s : Statement) → AreKeys (asked_keys s) (keeps_key table.def (pushed table.def s))
+  abbrev asked_are : (s : TableStatement) → AreKeys (asked_keys s) (keeps_key table.def (pushed table.def s))
   asked_are s = singles_are (keeps_key table.def (pushed table.def s))
 
   -- the table under the statement's name of it

@@ -8,7 +8,9 @@ use Rattle.sql_values.specs.declared.tree.Cond.{Cond}
 use Rattle.sql_text.specs.declared.fault.ParseFault.{ParseFault}
 use Rattle.sql_text.specs.declared.statement.Insert.{Insert}
 use Rattle.sql_text.specs.declared.statement.Statement.{Statement}
-use Rattle.sql_text.specs.declared.statement.Statement.TheVariants as statement
+use Rattle.sql_text.specs.declared.statement.Statement.TheVariants as client
+use Rattle.sql_text.specs.declared.statement.TableStatement.{TableStatement}
+use Rattle.sql_text.specs.declared.statement.TableStatement.TheVariants as statement
 use Rattle.sql_text.specs.Parsing.{parsed}
 use Rattle.catalog.specs.declared.tables.Table.{Table}
 use Rattle.catalog.specs.Views.{View}
@@ -29,7 +31,7 @@ use Rattle.plain_tables.proofs.Deleted.{deletions_keep_tables, rows_with_keys_go
 use Rattle.plain_tables.proofs.Inserted.{in_put, puts_keep_tables}
 use Rattle.plain_tables.proofs.Members.{all_of, all_by}
 use Rattle.front_core.specs.Core.{table_named}
-use Rattle.plain_sessions.specs.Exec.{Tables, with_rows, limit_passed, within_limit, exec_on, exec_at, exec_by, exec}
+use Rattle.plain_sessions.specs.Exec.{Tables, with_rows, limit_passed, within_limit, exec_on, exec_at, exec_one, exec_by, exec}
 use Rattle.plain_sessions.specs.Held.{CanBeServed}
 use Rattle.phase_law.specs.Laws.{IsHeld, AreHeld, StatementsKeepTables}
 use Rattle.phase_law.proofs.Dels.{rest_have}
@@ -87,7 +89,7 @@ module _ (catalog : View) (number : ℕ) (table : Table) (rows : List Row) (serv
   set_held cond sets (Ok news) stays set =
       puts_are_held table rows (changed (kept table.def cond rows) news) (changes_may_be table.def table.rule cond sets rows news held.rows_of stays set) (changes_fit table.def cond sets rows news held.fit set) held
 
-  done_held : (s : Statement) → refusal table.def table.rule s ≡ None → IsHeld table (done_by table.def s rows).1
+  done_held : (s : TableStatement) → refusal table.def table.rule s ≡ None → IsHeld table (done_by table.def s rows).1
   done_held (statement.Insert insert) passes =
       let news : List Row = rows_of table.def insert.columns insert.rows in
       insert_held table rows news (first_taken (has_row table.def rows) (map (key_of table.def) news)) held (added_held insert passes)
@@ -98,7 +100,7 @@ module _ (catalog : View) (number : ℕ) (table : Table) (rows : List Row) (serv
   done_held (statement.Delete delete) passes =
       subst (IsHeld table) (sym (rows_with_keys_go table.def delete.cond rows held.rows_of.rises)) (rest_is_held table (map (key_of table.def) (kept table.def delete.cond rows)) rows held)
 
-  executed_held : (s : Statement) (o : Option StmtFault) → refusal table.def table.rule s ≡ o → IsHeld table (executed_by table.def s rows o).1
+  executed_held : (s : TableStatement) (o : Option StmtFault) → refusal table.def table.rule s ≡ o → IsHeld table (executed_by table.def s rows o).1
   executed_held s (Some fault) refused = held
   executed_held s None passes = done_held s passes
 
@@ -107,7 +109,7 @@ module _ (catalog : View) (number : ℕ) (table : Table) (rows : List Row) (serv
   limit_held w e None left = left
 
   -- what a statement leaves of a table is one
-  pub exec_held : (s : Statement) → IsHeld table (exec_on table s rows).1
+  pub exec_held : (s : TableStatement) → IsHeld table (exec_on table s rows).1
   exec_held s =
       let e : Answer × List Row = executed table.def table.rule s rows in
       limit_held (work_of table.def s) e (limit_passed table s rows e.0) (executed_held s (refusal table.def table.rule s) refl)
@@ -123,19 +125,23 @@ with_held catalog tables number table rows held at here n other there = by_numbe
         subst (λ (t : Table). IsHeld t rows) (sym is) here
     by_number false apart = held n other there
 
-on_named : (catalog : View) (tables : Tables) (s : Statement) (number : ℕ) (table : Table) → CanBeServed catalog → AreHeld catalog tables → table_named catalog.tables (table_of s) ≡ Some (number, table)
+on_named : (catalog : View) (tables : Tables) (s : TableStatement) (number : ℕ) (table : Table) → CanBeServed catalog → AreHeld catalog tables → table_named catalog.tables (table_of s) ≡ Some (number, table)
     → AreHeld catalog (with_rows tables number (exec_on table s (tables number)).1)
 on_named catalog tables s number table served held is =
     let named = table_is_named catalog (table_of s) number table is in
     with_held catalog tables number table (exec_on table s (tables number)).1 held named.at (exec_held catalog number table (tables number) served named (held number table named.at) s)
 
-at_table : (catalog : View) (tables : Tables) (s : Statement) (o : Option (ℕ × Table)) → CanBeServed catalog → AreHeld catalog tables → table_named catalog.tables (table_of s) ≡ o → AreHeld catalog (exec_at tables s o).1
+at_table : (catalog : View) (tables : Tables) (s : TableStatement) (o : Option (ℕ × Table)) → CanBeServed catalog → AreHeld catalog tables → table_named catalog.tables (table_of s) ≡ o → AreHeld catalog (exec_at tables s o).1
 at_table catalog tables s None served held is = held
 at_table catalog tables s (Some (number, table)) served held is = on_named catalog tables s number table served held is
 
+by_one : (catalog : View) (tables : Tables) (s : Statement) → CanBeServed catalog → AreHeld catalog tables → AreHeld catalog (exec_one catalog tables s).1
+by_one catalog tables (client.Table s) served held = at_table catalog tables s (table_named catalog.tables (table_of s)) served held refl
+by_one catalog tables (client.Admin admin) served held = held
+
 by_text : (catalog : View) (tables : Tables) (r : Result Statement ParseFault) → CanBeServed catalog → AreHeld catalog tables → AreHeld catalog (exec_by catalog tables r).1
 by_text catalog tables (Err fault) served held = held
-by_text catalog tables (Ok s) served held = at_table catalog tables s (table_named catalog.tables (table_of s)) served held refl
+by_text catalog tables (Ok s) served held = by_one catalog tables s served held
 
 pub statements_keep_tables : StatementsKeepTables
 unfolding exec

@@ -27,7 +27,7 @@ use Rattle.sql_values.specs.Storing.{stored, is_within}
 use Rattle.part_rules.specs.declared.rule.Rule.{Rule}
 use Rattle.part_rules.specs.Placing.{part}
 use Rattle.sql_text.specs.declared.statement.Insert.{Insert}
-use Rattle.sql_text.specs.declared.statement.Statement.TheVariants as statement
+use Rattle.sql_text.specs.declared.statement.TableStatement.TheVariants as statement
 use Rattle.stmt_plan.specs.declared.fault.StmtFault.{StmtFault}
 use Rattle.stmt_plan.specs.declared.fault.StmtFault.TheVariants.{ColumnCount, NoPartition}
 use Rattle.stmt_plan.specs.Faults.{fault_of_store}

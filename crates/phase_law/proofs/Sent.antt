@@ -14,7 +14,7 @@ use Rattle.catalog.specs.Views.{View, table_name}
 use Rattle.catalog.specs.Views.{IsTable as IsConfigured}
 use Rattle.catalog_plan.specs.Plans.{table_of}
 use Rattle.sql_text.specs.declared.link.LinkAnswer.{LinkAnswer}
-use Rattle.sql_text.specs.declared.statement.Statement.{Statement}
+use Rattle.sql_text.specs.declared.statement.TableStatement.{TableStatement}
 use Rattle.stmt_plan.specs.Inserts.{key_name}
 use Rattle.stmt_plan.specs.Plans.{IsTable, mode_of, keeps_key}
 use Rattle.stmt_plan.specs.Refusals.{refusal}
@@ -104,7 +104,7 @@ table_is_sound catalog number table served is = tested_definition table.def is.t
 
 -- WHAT IS SENT
 
-module _ (catalog : View) (tables : Tables) (n : ℕ) (tx : TxNo) (number : ℕ) (table : Table) (s : Statement) (served : CanBeServed catalog) (held : AreHeld catalog tables)
+module _ (catalog : View) (tables : Tables) (n : ℕ) (tx : TxNo) (number : ℕ) (table : Table) (s : TableStatement) (served : CanBeServed catalog) (held : AreHeld catalog tables)
     (is : table_named catalog.tables (table_of s) ≡ Some (number, table)) (passes : refusal table.def table.rule s ≡ None) where
   named : IsNamed catalog number table
   named = table_is_named catalog (table_of s) number table is

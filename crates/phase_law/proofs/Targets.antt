@@ -19,7 +19,7 @@ use Rattle.catalog.specs.declared.tables.Table.{Table}
 use Rattle.catalog.specs.Links.{is_ok, are_links, differ}
 use Rattle.catalog.specs.Views.{View, IsTable}
 use Rattle.sql_text.specs.declared.link.LinkAnswer.{LinkAnswer}
-use Rattle.sql_text.specs.declared.statement.Statement.{Statement}
+use Rattle.sql_text.specs.declared.statement.TableStatement.{TableStatement}
 use Rattle.plain_tables.specs.Partitions.{rows_in}
 use Rattle.plain_tables.proofs.Members.{at_front, behind, either, nothing, in_lists, kept_passes, mapped_from}
 use Rattle.branch_store.specs.declared.branch.Branch as backend
@@ -232,7 +232,7 @@ counting_answers servers mode parts (p ∷ ps) f has =
     ∙ ap (λ l. f p ∷ l) (counting_answers servers mode parts ps f (λ q c. has q (behind p q ps c))))
 
 -- each partition that is asked is one of the table's
-pub parts_have_links : (servers : ℕ) (table : Table) (s : Statement) (p : ℕ) → IsTable servers table → Contains (parts_asked table.def table.rule s) p → HasLinks servers table.parts p
+pub parts_have_links : (servers : ℕ) (table : Table) (s : TableStatement) (p : ℕ) → IsTable servers table → Contains (parts_asked table.def table.rule s) p → HasLinks servers table.parts p
 unfolding parts_with
 parts_have_links servers table s p made c =
     let below = (in_range 0 (part_count table.rule) p (kept_passes _ (range_with_len 0 (part_count table.rule)) p c).0).1 in

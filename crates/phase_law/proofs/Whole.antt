@@ -19,8 +19,8 @@ use Rattle.catalog.specs.declared.tables.Table.{Table}
 use Rattle.catalog.specs.Views.{View}
 use Rattle.sql_text.specs.declared.link.LinkAnswer.{LinkAnswer}
 use Rattle.sql_text.specs.declared.link.ScanItems.TheVariants as scan
-use Rattle.sql_text.specs.declared.statement.Statement.{Statement}
-use Rattle.sql_text.specs.declared.statement.Statement.TheVariants as statement
+use Rattle.sql_text.specs.declared.statement.TableStatement.{TableStatement}
+use Rattle.sql_text.specs.declared.statement.TableStatement.TheVariants as statement
 use Rattle.stmt_plan.specs.declared.fault.RowFault.{RowFault}
 use Rattle.stmt_plan.specs.declared.planned.AnswerColumns.{AnswerColumns}
 use Rattle.stmt_plan.specs.declared.planned.AnswerColumns.TheVariants as columns
@@ -163,7 +163,7 @@ keys_placed def rule (row ∷ rows) = ap (λ ks. placed_key rule (key_of def row
 
 -- PLANS
 
-pushed_is : (def : TableDef) (s : Statement) → IsPushed def s (pushed def s)
+pushed_is : (def : TableDef) (s : TableStatement) → IsPushed def s (pushed def s)
 pushed_is def (statement.Insert insert) =
     let keys = map (row_key def.key) (rows_of def insert.columns insert.rows) in record { list = rising keys; rising = rising_rises keys; in_list = refl }
 pushed_is def (statement.Select select) = refl
@@ -171,7 +171,7 @@ pushed_is def (statement.Update update) = refl
 pushed_is def (statement.Delete delete) = refl
 
 -- the plan of these keys
-abbrev pub plan_with : ℕ → Table → Statement → List Interval → Plan
+abbrev pub plan_with : ℕ → Table → TableStatement → List Interval → Plan
 plan_with number table s keys = record {
   table = number;
   parts = parts_asked table.def table.rule s;
@@ -183,7 +183,7 @@ plan_with number table s keys = record {
   work = work_of table.def s;
 }
 
-pub is_planned : (number : ℕ) (table : Table) (s : Statement) (keys : List Interval) → AreKeys keys (keeps_key table.def (pushed table.def s)) → IsPruned table.rule keys (parts_asked table.def table.rule s)
+pub is_planned : (number : ℕ) (table : Table) (s : TableStatement) (keys : List Interval) → AreKeys keys (keeps_key table.def (pushed table.def s)) → IsPruned table.rule keys (parts_asked table.def table.rule s)
     → IsPlan number table.def table.rule s (plan_with number table s keys)
 is_planned number table s keys are pruned = record {
   table_is = refl;
@@ -216,7 +216,7 @@ pub nothing_put : (def : TableDef) (rows : List Row) → put_all def rows [] ≡
 unfolding put_all
 nothing_put def rows = refl
 
-module _ (catalog : View) (tables : Tables) (n : ℕ) (tx : TxNo) (number : ℕ) (table : Table) (s : Statement) (is : IsDefinition table.def) (whole : IsTable table.def table.rule (tables number))
+module _ (catalog : View) (tables : Tables) (n : ℕ) (tx : TxNo) (number : ℕ) (table : Table) (s : TableStatement) (is : IsDefinition table.def) (whole : IsTable table.def table.rule (tables number))
     (fit : AllByRecursion (FitsColumns table.def) (tables number)) (passes : refusal table.def table.rule s ≡ None) (keys : List Interval) (are : AreKeys keys (keeps_key table.def (pushed table.def s))) (pruned : IsPruned table.rule keys (parts_asked table.def table.rule s)) where
   -- the rows on which the condition holds
   abbrev pub rows_kept : List Row

@@ -6,7 +6,7 @@ use Rattle.catalog.specs.Conf.{IsCatalog}
 use Rattle.catalog.specs.Views.{View}
 use Rattle.catalog_plan.specs.Plans.{table_of}
 use Rattle.sql_values.specs.declared.value.Value.{Value}
-use Rattle.sql_text.specs.declared.statement.Statement.{Statement}
+use Rattle.sql_text.specs.declared.statement.TableStatement.{TableStatement}
 use Rattle.stmt_plan.specs.Plans.{work_of}
 use Rattle.stmt_plan.specs.Refusals.{refusal}
 use Rattle.plain_tables.specs.Partitions.{IsTable}
@@ -32,7 +32,7 @@ abbrev pub AreHeld : View → Tables → Type 0
 AreHeld catalog tables = (number : ℕ) (table : Table) → slice_get catalog.tables number ≡ Some table → IsHeld table (tables number)
 
 -- a statement on a table, as a transaction on connection n: from stores that hold the tables to those that hold what it leaves of them
-pub record GoesThrough (catalog : View) (tables : Tables) (n : ℕ) (tx : TxNo) (number : ℕ) (table : Table) (s : Statement) : Type 0 where
+pub record GoesThrough (catalog : View) (tables : Tables) (n : ℕ) (tx : TxNo) (number : ℕ) (table : Table) (s : TableStatement) : Type 0 where
   pub ending : Ending
   pub outcome : Outcome
   pub through : Through 6 n false (stores_of catalog tables) (begins (job_of catalog tx table s))
@@ -44,7 +44,7 @@ pub record GoesThrough (catalog : View) (tables : Tables) (n : ℕ) (tx : TxNo) 
 
 abbrev pub StatementsGoThrough : Type 0
 StatementsGoThrough =
-    (catalog : View) (tables : Tables) (n : ℕ) (tx : TxNo) (number : ℕ) (table : Table) (s : Statement) → CanBeServed catalog → AreHeld catalog tables →
+    (catalog : View) (tables : Tables) (n : ℕ) (tx : TxNo) (number : ℕ) (table : Table) (s : TableStatement) → CanBeServed catalog → AreHeld catalog tables →
     table_named catalog.tables (table_of s) ≡ Some (number, table) → refusal table.def table.rule s ≡ None → GoesThrough catalog tables n tx number table s
 
 abbrev pub StatementsKeepTables : Type 0

@@ -5,14 +5,16 @@ use Rattle.std.specs.Option.{option_or}
 use Rattle.sql_values.specs.declared.literal.Literal.{Literal}
 use Rattle.sql_values.specs.declared.table.TableDef.{TableDef}
 use Rattle.catalog.specs.declared.tables.Table.{Table}
-use Rattle.catalog.specs.Views.{View}
+use Rattle.catalog.specs.Views.{View, table_name}
 use Rattle.catalog_plan.specs.Plans.{table_of}
 use Rattle.sql_text.specs.declared.fault.ParseFault.{ParseFault}
 use Rattle.sql_text.specs.declared.statement.Select.{Select}
 use Rattle.sql_text.specs.declared.statement.SelectItems.{SelectItems}
 use Rattle.sql_text.specs.declared.statement.SelectItems.TheVariants as items
 use Rattle.sql_text.specs.declared.statement.Statement.{Statement}
-use Rattle.sql_text.specs.declared.statement.Statement.TheVariants as statement
+use Rattle.sql_text.specs.declared.statement.Statement.TheVariants as client
+use Rattle.sql_text.specs.declared.statement.TableStatement.{TableStatement}
+use Rattle.sql_text.specs.declared.statement.TableStatement.TheVariants as statement
 use Rattle.sql_text.specs.Parsing.{parsed}
 use Rattle.stmt_plan.specs.declared.planned.AnswerColumns.TheVariants as columns
 use Rattle.stmt_plan.specs.declared.planned.Work.{Work}
@@ -28,6 +30,7 @@ use Rattle.txn_phases.specs.Deeds.{deletes_too_much, placed, placed_key, writes_
 use Rattle.my_messages.specs.declared.reply.Column.{Column}
 use Rattle.my_messages.specs.declared.reply.Reply.{Reply}
 use Rattle.my_messages.specs.declared.reply.Reply.TheVariants as reply
+use Rattle.sql_replies.specs.Admin.{admin_reply}
 use Rattle.sql_replies.specs.Errors.{ok_reply, duplicate_reply, limit_reply, no_table_reply, parse_reply, plan_reply}
 use Rattle.sql_replies.specs.Outcomes.{row_reply}
 use Rattle.sql_replies.specs.Results.{column_of, cell_column_of}
@@ -72,18 +75,18 @@ abbrev pub rows_selected : TableDef → Select → List Row → SelectItems → 
 rows_selected def select rows (items.Aggregates list) = []
 rows_selected def select rows list = rows_by def select rows
 
-abbrev pub rows_found : TableDef → Statement → List Row → List Row
+abbrev pub rows_found : TableDef → TableStatement → List Row → List Row
 rows_found def (statement.Insert insert) rows = []
 rows_found def (statement.Select select) rows = rows_selected (known_as def select.tab) select rows select.items
 rows_found def (statement.Update update) rows = kept def update.cond rows
 rows_found def (statement.Delete delete) rows = kept def delete.cond rows
 
 -- what a statement writes that is done
-abbrev pub writes_of : TableDef → Statement → List Row → Writes
+abbrev pub writes_of : TableDef → TableStatement → List Row → Writes
 writes_of def s rows = (finished def (work_of def s) (rows_found def s rows)).1
 
 -- more than may be written at a server
-abbrev pub is_long : Table → Statement → Writes → Bool
+abbrev pub is_long : Table → TableStatement → Writes → Bool
 is_long table s (Puts news) = writes_too_much (targets_for table s) (map (placed table.def table.rule) news)
 is_long table s (Dels keys) = deletes_too_much (targets_for table s) (map (placed_key table.rule) keys)
 
@@ -101,7 +104,7 @@ answer_limit large = if large then Some (codes "answer") else None
 
 -- the limit that an answer passes: that of answers, which counts the rows of a SELECT as they are cut, and the rows that are found to be changed too, or that
 -- of what is written at a server
-abbrev pub limit_passed : Table → Statement → List Row → Answer → Option (List ℕ)
+abbrev pub limit_passed : Table → TableStatement → List Row → Answer → Option (List ℕ)
 limit_passed table s rows (Refused fault) = None
 limit_passed table s rows (Duplicate key) = None
 limit_passed table s rows (RowRefused fault) = answer_limit (is_too_large (rows_found table.def s rows))
@@ -117,19 +120,24 @@ within_limit def w rows e (Some limit) = (limit_reply limit, rows)
 within_limit def w rows e None = (reply_to def w e.0, e.1)
 
 -- what a statement on a table answers, and the rows that it leaves there
-abbrev pub exec_on : Table → Statement → List Row → Reply × List Row
+abbrev pub exec_on : Table → TableStatement → List Row → Reply × List Row
 exec_on table s rows = let e = executed table.def table.rule s rows in within_limit table.def (work_of table.def s) rows e (limit_passed table s rows e.0)
 
 abbrev pub on_table : Tables → ℕ → Reply × List Row → Reply × Tables
 on_table tables number e = (e.0, with_rows tables number e.1)
 
-abbrev pub exec_at : Tables → Statement → Option (ℕ × Table) → Reply × Tables
+abbrev pub exec_at : Tables → TableStatement → Option (ℕ × Table) → Reply × Tables
 exec_at tables s None = (no_table_reply (table_of s), tables)
 exec_at tables s (Some (number, table)) = on_table tables number (exec_on table s (tables number))
 
+-- a question about the server changes nothing
+abbrev pub exec_one : View → Tables → Statement → Reply × Tables
+exec_one catalog tables (client.Table s) = exec_at tables s (table_named catalog.tables (table_of s))
+exec_one catalog tables (client.Admin admin) = (admin_reply (map table_name catalog.tables) admin, tables)
+
 abbrev pub exec_by : View → Tables → Result Statement ParseFault → Reply × Tables
 exec_by catalog tables (Err fault) = (parse_reply fault, tables)
-exec_by catalog tables (Ok s) = exec_at tables s (table_named catalog.tables (table_of s))
+exec_by catalog tables (Ok s) = exec_one catalog tables s
 
 -- what a text answers, and the tables that it leaves
 unfoldable pub exec : View → List ℕ → Tables → Reply × Tables

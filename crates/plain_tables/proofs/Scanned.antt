@@ -30,8 +30,8 @@ use Rattle.sql_text.specs.declared.statement.AggregateItem.{AggregateItem}
 use Rattle.sql_text.specs.declared.statement.Select.{Select}
 use Rattle.sql_text.specs.declared.statement.SelectItems.{SelectItems}
 use Rattle.sql_text.specs.declared.statement.SelectItems.TheVariants as items
-use Rattle.sql_text.specs.declared.statement.Statement.{Statement}
-use Rattle.sql_text.specs.declared.statement.Statement.TheVariants as statement
+use Rattle.sql_text.specs.declared.statement.TableStatement.{TableStatement}
+use Rattle.sql_text.specs.declared.statement.TableStatement.TheVariants as statement
 use Rattle.sql_text.specs.declared.statement.Tab.{Tab}
 use Rattle.front_rows.specs.Aggregates.{over}
 use Rattle.front_rows.specs.Merging.{arranged}
@@ -164,7 +164,7 @@ made_of def rows w c = applied def rows (finished def w (arranged_by w (kept def
 planned_work : (def : TableDef) (rows : List Row) (w v : Work) (c d : Option Cond) → v ≡ w → d ≡ c → made_of def rows w c ≡ made_of def rows v d
 planned_work def rows w v c d works conds = ap (made_of def rows w) (sym conds) ∙ ap (λ (x : Work). made_of def rows x d) (sym works)
 
-scanned : (number : ℕ) (def : TableDef) (rule : Rule) (s : Statement) (plan : Plan) (rows : List Row) → IsDefinition def → IsTable def rule rows → no_column def s ≡ None → IsPlan number def rule s plan
+scanned : (number : ℕ) (def : TableDef) (rule : Rule) (s : TableStatement) (plan : Plan) (rows : List Row) → IsDefinition def → IsTable def rule rows → no_column def s ≡ None → IsPlan number def rule s plan
     → done_by def s rows ≡ made_of def rows plan.work plan.cond
 unfolding put_all
 scanned number def rule (statement.Insert insert) plan rows is table known planned =

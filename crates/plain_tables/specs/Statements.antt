@@ -12,8 +12,8 @@ use Rattle.sql_text.specs.declared.statement.Delete.{Delete}
 use Rattle.sql_text.specs.declared.statement.Select.{Select}
 use Rattle.sql_text.specs.declared.statement.SelectItems.{SelectItems}
 use Rattle.sql_text.specs.declared.statement.SelectItems.TheVariants as items
-use Rattle.sql_text.specs.declared.statement.Statement.{Statement}
-use Rattle.sql_text.specs.declared.statement.Statement.TheVariants as statement
+use Rattle.sql_text.specs.declared.statement.TableStatement.{TableStatement}
+use Rattle.sql_text.specs.declared.statement.TableStatement.TheVariants as statement
 use Rattle.sql_text.specs.declared.statement.Update.{Update}
 use Rattle.front_rows.specs.Aggregates.{over}
 use Rattle.front_rows.specs.Merging.{arranged}
@@ -88,18 +88,18 @@ updated def update rows = let hits = kept def update.cond rows in updated_by def
 abbrev pub deleted : TableDef → Delete → List Row → Answer × List Row
 deleted def delete rows = (Done (length (kept def delete.cond rows)), filter (λ row. not (holds_on def delete.cond row)) rows)
 
-abbrev pub done_by : TableDef → Statement → List Row → Answer × List Row
+abbrev pub done_by : TableDef → TableStatement → List Row → Answer × List Row
 done_by def (statement.Insert insert) rows = inserted def (rows_of def insert.columns insert.rows) rows
 done_by def (statement.Select select) rows = (selected def select rows, rows)
 done_by def (statement.Update update) rows = updated def update rows
 done_by def (statement.Delete delete) rows = deleted def delete rows
 
-abbrev pub executed_by : TableDef → Statement → List Row → Option StmtFault → Answer × List Row
+abbrev pub executed_by : TableDef → TableStatement → List Row → Option StmtFault → Answer × List Row
 executed_by def s rows (Some fault) = (Refused fault, rows)
 executed_by def s rows None = done_by def s rows
 
 -- the answer of a statement on a table, and the rows that it leaves
-abbrev pub executed : TableDef → Rule → Statement → List Row → Answer × List Row
+abbrev pub executed : TableDef → Rule → TableStatement → List Row → Answer × List Row
 executed def rule s rows = executed_by def s rows (refusal def rule s)
 
 -- A STATEMENT AS WHAT ITS SCAN FINDS
@@ -142,5 +142,5 @@ applied def rows made = (made.0, written def rows made.1)
 -- a statement that isn't refused is a scan of its condition, and what it makes of what that found
 abbrev pub StatementsAreScans : Type 0
 StatementsAreScans =
-    (number : ℕ) (def : TableDef) (rule : Rule) (s : Statement) (plan : Plan) (rows : List Row) → IsDefinition def → IsTable def rule rows →
+    (number : ℕ) (def : TableDef) (rule : Rule) (s : TableStatement) (plan : Plan) (rows : List Row) → IsDefinition def → IsTable def rule rows →
     refusal def rule s ≡ None → IsPlan number def rule s plan → executed def rule s rows ≡ applied def rows (finished def plan.work (arranged_by plan.work (kept def plan.cond rows)))

@@ -1,3 +1,4 @@
+pub mod Admin
 pub mod Errors
 pub mod Outcomes
 pub mod Results

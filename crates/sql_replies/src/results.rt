@@ -17,7 +17,7 @@ use std::alloc::{AllocError, Global};
 use stmt_plan::{CellColumn, Pick, Picks};
 
 /// The character set number of UTF-8 texts.
-const UTF8: u16 = 45;
+pub(crate) const UTF8: u16 = 45;
 
 /// The character set number of numbers.
 const BINARY: u16 = 63;
@@ -26,13 +26,13 @@ const BINARY: u16 = 63;
 const BIGINT: u8 = 8;
 
 /// The type byte of a VARCHAR (`MYSQL_TYPE_VAR_STRING`).
-const VARCHAR: u8 = 0xfd;
+pub(crate) const VARCHAR: u8 = 0xfd;
 
 /// The type byte of a number of any length (`MYSQL_TYPE_NEWDECIMAL`).
 const DECIMAL: u8 = 0xf6;
 
 /// The flag of a column that holds no NULL (`NOT_NULL_FLAG`).
-const NOT_NULL: u16 = 1;
+pub(crate) const NOT_NULL: u16 = 1;
 
 /// The flags of the key column, which has `PRI_KEY_FLAG` too.
 const KEY: u16 = 3;

@@ -16,8 +16,8 @@ use Rattle.sql_values.specs.Columns.{may_mean, may_qualify, columns_meant}
 use Rattle.part_rules.specs.declared.rule.Rule.{Rule}
 use Rattle.sql_text.specs.declared.statement.Delete.{Delete}
 use Rattle.sql_text.specs.declared.statement.Select.{Select}
-use Rattle.sql_text.specs.declared.statement.Statement.{Statement}
-use Rattle.sql_text.specs.declared.statement.Statement.TheVariants as statement
+use Rattle.sql_text.specs.declared.statement.TableStatement.{TableStatement}
+use Rattle.sql_text.specs.declared.statement.TableStatement.TheVariants as statement
 use Rattle.sql_text.specs.declared.statement.Update.{Update}
 use Rattle.stmt_plan.specs.declared.fault.StmtFault.{StmtFault}
 use Rattle.stmt_plan.specs.declared.fault.StmtFault.TheVariants.{NoColumn, Ambiguous, KeyChanged, TypeMismatch, NoMemory}
@@ -174,32 +174,32 @@ pub told_by : (refusals found : Option StmtFault) (fault : StmtFault) → refusa
 told_by refusals found fault same (inl none) = inl none
 told_by refusals found fault same (inr is) = inr (same ∙ is)
 
-pub told_of_select : (table : TableDef) (rule : Rule) (s : Statement) (select : Select) (fault : StmtFault) → IsTable table →
+pub told_of_select : (table : TableDef) (rule : Rule) (s : TableStatement) (select : Select) (fault : StmtFault) → IsTable table →
     s ≡ statement.Select select →
     (fault ≡ NoMemory) ⊎ (chosen_fault table select ≡ Some fault) → (fault ≡ NoMemory) ⊎ (refusal table rule s ≡ Some fault)
 told_of_select table rule s select fault is selects =
     told_by (refusal table rule s) (chosen_fault table select) fault (ap (refusal table rule) selects ∙ refusal_of_select table rule select is)
 
-pub none_of_select : (table : TableDef) (rule : Rule) (s : Statement) (select : Select) → IsTable table → s ≡ statement.Select select →
+pub none_of_select : (table : TableDef) (rule : Rule) (s : TableStatement) (select : Select) → IsTable table → s ≡ statement.Select select →
     chosen_fault table select ≡ None → refusal table rule s ≡ None
 none_of_select table rule s select is selects none = ap (refusal table rule) selects ∙ refusal_of_select table rule select is ∙ none
 
-pub told_of_update : (table : TableDef) (rule : Rule) (s : Statement) (update : Update) (fault : StmtFault) → IsTable table →
+pub told_of_update : (table : TableDef) (rule : Rule) (s : TableStatement) (update : Update) (fault : StmtFault) → IsTable table →
     s ≡ statement.Update update →
     (fault ≡ NoMemory) ⊎ (update_fault table update ≡ Some fault) → (fault ≡ NoMemory) ⊎ (refusal table rule s ≡ Some fault)
 told_of_update table rule s update fault is updates =
     told_by (refusal table rule s) (update_fault table update) fault (ap (refusal table rule) updates ∙ refusal_of_update table rule update is)
 
-pub none_of_update : (table : TableDef) (rule : Rule) (s : Statement) (update : Update) → IsTable table → s ≡ statement.Update update →
+pub none_of_update : (table : TableDef) (rule : Rule) (s : TableStatement) (update : Update) → IsTable table → s ≡ statement.Update update →
     update_fault table update ≡ None → refusal table rule s ≡ None
 none_of_update table rule s update is updates none = ap (refusal table rule) updates ∙ refusal_of_update table rule update is ∙ none
 
-pub told_of_delete : (table : TableDef) (rule : Rule) (s : Statement) (delete : Delete) (fault : StmtFault) → IsTable table →
+pub told_of_delete : (table : TableDef) (rule : Rule) (s : TableStatement) (delete : Delete) (fault : StmtFault) → IsTable table →
     s ≡ statement.Delete delete →
     (fault ≡ NoMemory) ⊎ (where_fault table delete.cond ≡ Some fault) → (fault ≡ NoMemory) ⊎ (refusal table rule s ≡ Some fault)
 told_of_delete table rule s delete fault is deletes =
     told_by (refusal table rule s) (where_fault table delete.cond) fault (ap (refusal table rule) deletes ∙ refusal_of_delete table rule delete is)
 
-pub none_of_delete : (table : TableDef) (rule : Rule) (s : Statement) (delete : Delete) → IsTable table → s ≡ statement.Delete delete →
+pub none_of_delete : (table : TableDef) (rule : Rule) (s : TableStatement) (delete : Delete) → IsTable table → s ≡ statement.Delete delete →
     where_fault table delete.cond ≡ None → refusal table rule s ≡ None
 none_of_delete table rule s delete is deletes none = ap (refusal table rule) deletes ∙ refusal_of_delete table rule delete is ∙ none

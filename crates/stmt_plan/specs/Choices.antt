@@ -5,7 +5,7 @@ use Rattle.sql_values.specs.declared.table.TableDef.{TableDef}
 use Rattle.sql_text.specs.declared.statement.Select.{Select}
 use Rattle.sql_text.specs.declared.statement.SelectItems.{SelectItems}
 use Rattle.sql_text.specs.declared.statement.SelectItems.TheVariants as items
-use Rattle.sql_text.specs.declared.statement.Statement.TheVariants as statement
+use Rattle.sql_text.specs.declared.statement.TableStatement.TheVariants as statement
 use Rattle.stmt_plan.specs.declared.choosing.Choice.{Choice}
 use Rattle.stmt_plan.specs.Plans.{items_of, limit_of, work_of}
 use Rattle.stmt_plan.specs.Selects.{unqualified}

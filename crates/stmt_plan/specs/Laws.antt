@@ -13,8 +13,8 @@ use Rattle.sql_values.specs.Conditions.{cond_holds}
 use Rattle.part_rules.specs.declared.rule.Rule.{Rule}
 use Rattle.part_rules.specs.Placing.{part}
 use Rattle.sql_text.specs.declared.statement.Insert.{Insert}
-use Rattle.sql_text.specs.declared.statement.Statement.{Statement}
-use Rattle.sql_text.specs.declared.statement.Statement.TheVariants as statement
+use Rattle.sql_text.specs.declared.statement.TableStatement.{TableStatement}
+use Rattle.sql_text.specs.declared.statement.TableStatement.TheVariants as statement
 use Rattle.sql_text.specs.declared.statement.Tab.{Tab}
 use Rattle.stmt_plan.specs.declared.planned.Plan.{Plan}
 use Rattle.stmt_plan.specs.Inserts.{is_named, targets, unknown_target, has_each_once, rows_of, row_key}
@@ -29,7 +29,7 @@ UnqualifiedMeansTheSame = (table : TableDef) (tab : Tab) (row : List Value) (con
 
 -- a row on which a plan's condition holds lies in one of its partitions
 abbrev pub NoRowIsMissed : Type 0
-NoRowIsMissed = (number : ℕ) (table : TableDef) (rule : Rule) (s : Statement) (plan : Plan) (row : List Value) (key : ℤ) (p : ℕ) →
+NoRowIsMissed = (number : ℕ) (table : TableDef) (rule : Rule) (s : TableStatement) (plan : Plan) (row : List Value) (key : ℤ) (p : ℕ) →
     IsTable table → IsPlan number table rule s plan → slice_get row table.key ≡ Some (value.Number key) → FitsSigned w64 key →
     option_map_or (cond_holds (table ∷ []) row) plan.cond true ≡ true → part rule key ≡ Some p → Contains plan.parts p
 

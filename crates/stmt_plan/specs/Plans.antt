@@ -13,8 +13,8 @@ use Rattle.part_rules.specs.Keeps.{keeps}
 use Rattle.part_rules.specs.Pruned.{IsPruned}
 use Rattle.sql_text.specs.declared.link.ScanItems.{ScanItems}
 use Rattle.sql_text.specs.declared.link.ScanItems.TheVariants as scan
-use Rattle.sql_text.specs.declared.statement.Statement.{Statement}
-use Rattle.sql_text.specs.declared.statement.Statement.TheVariants as statement
+use Rattle.sql_text.specs.declared.statement.TableStatement.{TableStatement}
+use Rattle.sql_text.specs.declared.statement.TableStatement.TheVariants as statement
 use Rattle.stmt_plan.specs.declared.planned.Plan.{Plan}
 use Rattle.stmt_plan.specs.declared.planned.Work.{Work}
 use Rattle.stmt_plan.specs.declared.planned.Work.TheVariants as work
@@ -29,12 +29,12 @@ pub record IsTable (table : TableDef) : Type 0 where
   pub key : IsSomeAnd (slice_get table.columns table.key) (λ (column : ColumnDef). column.kind ≡ BigInt)
 
 -- rows that are to be added or changed, or to go, are locked against all others, rows that are read against writers, or as the SELECT says
-abbrev pub mode_of : Statement → LockMode
+abbrev pub mode_of : TableStatement → LockMode
 mode_of (statement.Select select) = unwrap_or select.lock Shared
 mode_of _ = Exclusive
 
 -- what is done with the rows that are found
-abbrev pub work_of : TableDef → Statement → Work
+abbrev pub work_of : TableDef → TableStatement → Work
 work_of table (statement.Insert insert) = work.Insert (rows_of table insert.columns insert.rows)
 work_of table (statement.Select select) = work_by (known_as table select.tab) select select.items
 work_of table (statement.Update update) = work.Update (settings table update.sets)
@@ -47,19 +47,19 @@ pub record AsksForKeys (table : TableDef) (keys : List ℤ) (pushed : Option Con
   pub in_list : pushed ≡ Some (in_keys table list)
 
 -- an INSERT asks for its keys, each other statement for the rows of its WHERE
-abbrev pub IsPushed : TableDef → Statement → Option Cond → Type 0
+abbrev pub IsPushed : TableDef → TableStatement → Option Cond → Type 0
 IsPushed table (statement.Insert insert) pushed = AsksForKeys table (map (row_key table.key) (rows_of table insert.columns insert.rows)) pushed
 IsPushed table (statement.Select select) pushed = pushed ≡ option_map unqualified select.cond
 IsPushed table (statement.Update update) pushed = pushed ≡ option_map unqualified update.cond
 IsPushed table (statement.Delete delete) pushed = pushed ≡ option_map unqualified delete.cond
 
 -- what is asked of these rows
-abbrev pub items_of : Statement → ScanItems
+abbrev pub items_of : TableStatement → ScanItems
 items_of (statement.Select select) = items_by select.items
 items_of _ = scan.All
 
 -- of how many of them at most
-abbrev pub limit_of : TableDef → Statement → Option ℕ
+abbrev pub limit_of : TableDef → TableStatement → Option ℕ
 limit_of table (statement.Select select) = limit_by (known_as table select.tab) select select.items
 limit_of table _ = None
 
@@ -67,7 +67,7 @@ limit_of table _ = None
 abbrev pub keeps_key : TableDef → Option Cond → ℤ → Bool
 keeps_key table pushed key = option_map_or (keeps table key) pushed true
 
-pub record IsPlan (number : ℕ) (table : TableDef) (rule : Rule) (s : Statement) (plan : Plan) : Type 0 where
+pub record IsPlan (number : ℕ) (table : TableDef) (rule : Rule) (s : TableStatement) (plan : Plan) : Type 0 where
   pub table_is : plan.table ≡ number
   pub parts : IsPruned rule plan.keys plan.parts
   pub keys : AreKeys plan.keys (keeps_key table plan.cond)

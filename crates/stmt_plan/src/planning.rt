@@ -15,7 +15,7 @@ use crate::key_conditions::{key_condition, keys_of_rows, place_keys};
 use crate::setting::set;
 use crate::{Plan, StmtFault, Work};
 use part_rules::{Rule, keys_of, prune};
-use sql_text::{Insert, ScanItems, Select, Statement};
+use sql_text::{Insert, ScanItems, Select, TableStatement};
 use sql_values::{Cond, Intervals, LockMode, Row, Rows, TableDef, TableNo};
 use std::alloc::{AllocError, Global};
 
@@ -57,10 +57,10 @@ fn insert(
 ) -> Result<(Cond, Rows), StmtFault>
     requires rule { IsRule rule.now }
     requires table { IsTable table.now }
-    ensures cond { IfOk result (λ found. IsPushed table.now (Statement.Insert insert.now) (Some found.0)) }
+    ensures cond { IfOk result (λ found. IsPushed table.now (TableStatement.Insert insert.now) (Some found.0)) }
     ensures rows { IfOk result (λ found. found.1 ≡ rows_of table.now insert.now.columns insert.now.rows) }
-    ensures ok { OnOk result (refusal table.now rule.now (Statement.Insert insert.now) ≡ None) }
-    ensures err { IfErr result (λ fault. (fault ≡ StmtFault.NoMemory) ⊎ (refusal table.now rule.now (Statement.Insert insert.now) ≡ Some fault)) }
+    ensures ok { OnOk result (refusal table.now rule.now (TableStatement.Insert insert.now) ≡ None) }
+    ensures err { IfErr result (λ fault. (fault ≡ StmtFault.NoMemory) ⊎ (refusal table.now rule.now (TableStatement.Insert insert.now) ≡ Some fault)) }
 {
     let rows = stored(alloc, table, insert)?;
     let cond = placed(alloc, table, rule, rows.as_slice())?;
@@ -126,7 +126,7 @@ fn to_write(cond: Option<Cond>, work: Work) -> Demand
 
 /// How a SELECT locks the rows that it reads.
 fn select_mode(select: &Select) -> LockMode
-    ensures { result ≡ mode_of (Statement.Select select.now) }
+    ensures { result ≡ mode_of (TableStatement.Select select.now) }
 {
     select.lock.unwrap_or(LockMode::Shared)
 }
@@ -136,7 +136,7 @@ fn demanded(
     alloc: Global,
     table: &TableDef,
     rule: &Rule,
-    statement: &Statement,
+    statement: &TableStatement,
 ) -> Result<Demand, StmtFault>
     requires rule { IsRule rule.now }
     requires table { IsTable table.now }
@@ -149,11 +149,11 @@ fn demanded(
     ensures err { IfErr result (λ fault. (fault ≡ StmtFault.NoMemory) ⊎ (refusal table.now rule.now statement.now ≡ Some fault)) }
 {
     match statement {
-        Statement::Insert(statement) => {
+        TableStatement::Insert(statement) => {
             let (cond, rows) = insert(alloc, table, rule, statement)?;
             Ok(to_write(Some(cond), Work::Insert(rows)))
         }
-        Statement::Select(statement) => match choose(alloc, table, statement) {
+        TableStatement::Select(statement) => match choose(alloc, table, statement) {
             Ok(choice) => Ok(Demand {
                 items: choice.items,
                 cond: choice.cond,
@@ -163,11 +163,11 @@ fn demanded(
             }),
             Err(fault) => Err(fault),
         },
-        Statement::Update(statement) => match set(alloc, table, statement) {
+        TableStatement::Update(statement) => match set(alloc, table, statement) {
             Ok((cond, sets)) => Ok(to_write(cond, Work::Update(sets))),
             Err(fault) => Err(fault),
         },
-        Statement::Delete(statement) => match asked(alloc, table, &table.name, &statement.cond) {
+        TableStatement::Delete(statement) => match asked(alloc, table, &table.name, &statement.cond) {
             Ok(cond) => Ok(to_write(cond, Work::Delete)),
             Err(fault) => Err(fault),
         },
@@ -188,7 +188,7 @@ pub fn plan_on(
     number: TableNo,
     table: &TableDef,
     rule: &Rule,
-    statement: &Statement,
+    statement: &TableStatement,
 ) -> Result<Plan, StmtFault>
     requires rule { IsRule rule.now }
     requires table { IsTable table.now }

@@ -3,7 +3,7 @@
 use stmt_plan::*;
 use list_types::{Listed, Text};
 use part_rules::{Bound, Bounds, Rule};
-use sql_text::{Statement, parse};
+use sql_text::{TableStatement, parse};
 use sql_values::{ColumnDef, Kind, LockMode, Name, PartNo, Row, Rows, TableDef, Value};
 use std::test::*;
 
@@ -44,7 +44,7 @@ pub(crate) fn two_parts(rt: &HostRuntime) -> Result<Rule, Fail> {
     }
 }
 
-pub(crate) fn statement(rt: &HostRuntime, text: &[u8]) -> Result<Statement, Fail> {
+pub(crate) fn statement(rt: &HostRuntime, text: &[u8]) -> Result<TableStatement, Fail> {
     match parse(rt.alloc(), text) {
         Ok(statement) => Ok(statement),
         Err(_) => Err(Fail::from("no statement")),
@@ -55,7 +55,7 @@ pub(crate) fn plan_with(
     rt: &HostRuntime,
     table: &TableDef,
     rule: &Rule,
-    statement: &Statement,
+    statement: &TableStatement,
 ) -> Result<Plan, StmtFault> {
     if is_table(table) && rule.has_parts() {
         plan_on(rt.alloc(), 7, table, rule, statement)
@@ -220,7 +220,7 @@ pub(crate) fn has_places(plan: &Plan, parts: &[PartNo], keys: &[(i64, i64)]) -> 
 // The condition is that of this statement.
 pub(crate) fn has_cond_of(rt: &HostRuntime, plan: &Plan, text: &[u8]) -> Result<bool, Fail> {
     match (statement(rt, text)?, &plan.cond) {
-        (Statement::Select(select), Some(cond)) => match &select.cond {
+        (TableStatement::Select(select), Some(cond)) => match &select.cond {
             Some(other) => Ok(cond.is_same(other)),
             None => Ok(false),
         },

@@ -6,7 +6,7 @@ use crate::tests::{
 use stmt_plan::*;
 use list_types::{Listed, Text};
 use part_rules::Rule;
-use sql_text::{Assignment, Assignments, Delete, Select, Statement, Update};
+use sql_text::{Assignment, Assignments, Delete, Select, TableStatement, Update};
 use sql_values::{Addend, ColumnName, Cond, Expr, Kind, Literal, LockMode, TableDef};
 use sqlite_items::Items;
 use std::test::*;
@@ -73,7 +73,7 @@ fn expr(rt: &HostRuntime, given: Given) -> Result<Expr, Fail> {
 // the condition of a SELECT
 fn where_of(rt: &HostRuntime, text: &[u8]) -> Result<Option<Cond>, Fail> {
     match statement(rt, text)? {
-        Statement::Select(select) => {
+        TableStatement::Select(select) => {
             let Select {
                 items: _,
                 tab: _,
@@ -99,32 +99,32 @@ fn assignments(rt: &HostRuntime, sets: &[(&str, Given)]) -> Result<Assignments, 
     Ok(list)
 }
 
-fn update(rt: &HostRuntime, sets: &[(&str, Given)], select: &[u8]) -> Result<Statement, Fail> {
-    Ok(Statement::Update(Update {
+fn update(rt: &HostRuntime, sets: &[(&str, Given)], select: &[u8]) -> Result<TableStatement, Fail> {
+    Ok(TableStatement::Update(Update {
         table: name(rt, "t")?,
         sets: assignments(rt, sets)?,
         cond: where_of(rt, select)?,
     }))
 }
 
-fn delete(rt: &HostRuntime, select: &[u8]) -> Result<Statement, Fail> {
-    Ok(Statement::Delete(Delete {
+fn delete(rt: &HostRuntime, select: &[u8]) -> Result<TableStatement, Fail> {
+    Ok(TableStatement::Delete(Delete {
         table: name(rt, "t")?,
         cond: where_of(rt, select)?,
     }))
 }
 
-fn locked(rt: &HostRuntime, select: &[u8], mode: LockMode) -> Result<Statement, Fail> {
+fn locked(rt: &HostRuntime, select: &[u8], mode: LockMode) -> Result<TableStatement, Fail> {
     match statement(rt, select)? {
-        Statement::Select(mut select) => {
+        TableStatement::Select(mut select) => {
             select.lock = Some(mode);
-            Ok(Statement::Select(select))
+            Ok(TableStatement::Select(select))
         }
         _ => Err(Fail::from("no SELECT")),
     }
 }
 
-fn planned(rt: &HostRuntime, statement: &Statement) -> Result<Result<Plan, StmtFault>, Fail> {
+fn planned(rt: &HostRuntime, statement: &TableStatement) -> Result<Result<Plan, StmtFault>, Fail> {
     let table = table(rt)?;
     let rule = two_parts(rt)?;
     Ok(plan_with(rt, &table, &rule, statement))

@@ -14,6 +14,8 @@ use Rattle.catalog.specs.Views.{View, table_name}
 use Rattle.catalog_plan.specs.Plans.{table_of}
 use Rattle.sql_text.specs.declared.fault.ParseFault.{ParseFault}
 use Rattle.sql_text.specs.declared.statement.Statement.{Statement}
+use Rattle.sql_text.specs.declared.statement.Statement.TheVariants as client_statement
+use Rattle.sql_text.specs.declared.statement.TableStatement.{TableStatement}
 use Rattle.sql_text.specs.Parsing.{parsed}
 use Rattle.stmt_plan.specs.declared.fault.StmtFault.{StmtFault}
 use Rattle.stmt_plan.specs.Plans.{work_of as work_planned}
@@ -21,6 +23,7 @@ use Rattle.stmt_plan.specs.Refusals.{refusal}
 use Rattle.plain_tables.specs.Statements.{executed_by}
 use Rattle.branch_store.specs.Store.{Store}
 use Rattle.my_messages.specs.declared.reply.Reply.{Reply}
+use Rattle.sql_replies.specs.Admin.{admin_reply}
 use Rattle.sql_replies.specs.Errors.{no_table_reply, log_full_reply, parse_reply, plan_reply}
 use Rattle.txn_phases.specs.declared.phase.Ending.{Ending}
 use Rattle.txn_phases.specs.declared.phase.Ending.TheVariants.{Committed, Alone, RolledBack}
@@ -31,10 +34,10 @@ use Rattle.front_core.specs.declared.event.Output.TheVariants.{Answer}
 use Rattle.front_core.specs.declared.work.Running.{Running}
 use Rattle.front_core.specs.declared.work.Work.{Work}
 use Rattle.front_core.specs.declared.work.Work.TheVariants.{Idle}
-use Rattle.front_core.specs.Core.{Stepped, begins, begins_by, begins_at, begins_on, answers, starts, goes_on, new_run, tx_of, table_named, table_at, is_table, work_of, most_turns, outcome_told, reply_on}
+use Rattle.front_core.specs.Core.{Stepped, begins, begins_by, begins_one, begins_at, begins_on, answers, starts, goes_on, new_run, tx_of, table_named, table_at, is_table, work_of, most_turns, outcome_told, reply_on}
 use Rattle.front_core.specs.Jobs.{columns_by, job_of}
 use Rattle.front_core.specs.Outputs.{sends, answers_in, decided_in, acked_in}
-use Rattle.plain_sessions.specs.Exec.{Tables, with_rows, exec, exec_by, exec_at, exec_on, on_table, within_limit, limit_passed, reply_to}
+use Rattle.plain_sessions.specs.Exec.{Tables, with_rows, exec, exec_by, exec_one, exec_at, exec_on, on_table, within_limit, limit_passed, reply_to}
 use Rattle.plain_sessions.specs.Held.{CanBeServed, stores_of}
 use Rattle.plain_sessions.specs.Serial.{Entry, Follows}
 use Rattle.phase_law.specs.Laws.{AreHeld, GoesThrough, StatementsGoThrough, StatementsKeepTables}
@@ -183,7 +186,7 @@ unfolding most_turns
 left_turns steps h = omega arith
 
 -- a statement that breaks no rule
-starts_plain : (catalog : View) (drawn n : ℕ) (sessions : Sessions) (tables : Tables) (text : List ℕ) (s : Statement) (number : ℕ) (table : Table) → lookup (is_at (nat_cmp n)) sessions ≡ Some Idle
+starts_plain : (catalog : View) (drawn n : ℕ) (sessions : Sessions) (tables : Tables) (text : List ℕ) (s : TableStatement) (number : ℕ) (table : Table) → lookup (is_at (nat_cmp n)) sessions ≡ Some Idle
     → AreIdle sessions → slice_get catalog.tables number ≡ Some table → exec catalog text tables ≡ on_table tables number (exec_on table s (tables number))
     → GoesThrough catalog tables n (next drawn) number table s
     → DoesPlain catalog drawn tables text (from_begin catalog sessions n tables (starts catalog (drawn + 1) (new_run catalog (next drawn) number table s)))
@@ -206,7 +209,7 @@ starts_plain catalog drawn n sessions tables text s number table there idle at i
 
 module _ (go_through : StatementsGoThrough) (keep : StatementsKeepTables) (catalog : View) (served : CanBeServed catalog) where
   -- on a table
-  begins_on_plain : (drawn n : ℕ) (sessions : Sessions) (tables : Tables) (text : List ℕ) (s : Statement) (number : ℕ) (table : Table) (fault : Option StmtFault) → (drawn == 2 ^ 64 - 1) ≡ false
+  begins_on_plain : (drawn n : ℕ) (sessions : Sessions) (tables : Tables) (text : List ℕ) (s : TableStatement) (number : ℕ) (table : Table) (fault : Option StmtFault) → (drawn == 2 ^ 64 - 1) ≡ false
       → lookup (is_at (nat_cmp n)) sessions ≡ Some Idle → AreIdle sessions → AreHeld catalog tables → table_named catalog.tables (table_of s) ≡ Some (number, table)
       → exec catalog text tables ≡ exec_at tables s (Some (number, table)) → refusal table.def table.rule s ≡ fault
       → DoesPlain catalog drawn tables text (from_begin catalog sessions n tables (begins_on catalog drawn s number table fault))
@@ -222,19 +225,26 @@ module _ (go_through : StatementsGoThrough) (keep : StatementsKeepTables) (catal
       (starts_plain catalog drawn n sessions tables text s number table there idle (table_is_named catalog (table_of s) number table found).at is
       (go_through catalog tables n (next drawn) number table s served held found broken))
 
-  begins_at_plain : (drawn n : ℕ) (sessions : Sessions) (tables : Tables) (text : List ℕ) (s : Statement) (found : Option (ℕ × Table)) → (drawn == 2 ^ 64 - 1) ≡ false
+  begins_at_plain : (drawn n : ℕ) (sessions : Sessions) (tables : Tables) (text : List ℕ) (s : TableStatement) (found : Option (ℕ × Table)) → (drawn == 2 ^ 64 - 1) ≡ false
       → lookup (is_at (nat_cmp n)) sessions ≡ Some Idle → AreIdle sessions → AreHeld catalog tables → table_named catalog.tables (table_of s) ≡ found → exec catalog text tables ≡ exec_at tables s found
       → DoesPlain catalog drawn tables text (from_begin catalog sessions n tables (begins_at catalog drawn s found))
   begins_at_plain drawn n sessions tables text s None more there idle held found is = refuses catalog drawn n sessions tables text (no_table_reply (table_of s)) there idle is
   begins_at_plain drawn n sessions tables text s (Some (number, table)) more there idle held found is =
       begins_on_plain drawn n sessions tables text s number table (refusal table.def table.rule s) more there idle held found is refl
 
+  begins_one_plain : (drawn n : ℕ) (sessions : Sessions) (tables : Tables) (text : List ℕ) (s : Statement) → (drawn == 2 ^ 64 - 1) ≡ false
+      → lookup (is_at (nat_cmp n)) sessions ≡ Some Idle → AreIdle sessions → AreHeld catalog tables → exec catalog text tables ≡ exec_one catalog tables s
+      → DoesPlain catalog drawn tables text (from_begin catalog sessions n tables (begins_one catalog drawn s))
+  begins_one_plain drawn n sessions tables text (client_statement.Table s) more there idle held is =
+      begins_at_plain drawn n sessions tables text s (table_named catalog.tables (table_of s)) more there idle held refl is
+  begins_one_plain drawn n sessions tables text (client_statement.Admin admin) more there idle held is =
+      refuses catalog drawn n sessions tables text (admin_reply (map table_name catalog.tables) admin) there idle is
+
   begins_plain : (drawn n : ℕ) (sessions : Sessions) (tables : Tables) (text : List ℕ) (read : Result Statement ParseFault) → (drawn == 2 ^ 64 - 1) ≡ false
       → lookup (is_at (nat_cmp n)) sessions ≡ Some Idle → AreIdle sessions → AreHeld catalog tables → exec catalog text tables ≡ exec_by catalog tables read
       → DoesPlain catalog drawn tables text (from_begin catalog sessions n tables (begins_by catalog drawn read))
   begins_plain drawn n sessions tables text (Err fault) more there idle held is = refuses catalog drawn n sessions tables text (parse_reply fault) there idle is
-  begins_plain drawn n sessions tables text (Ok s) more there idle held is =
-      begins_at_plain drawn n sessions tables text s (table_named catalog.tables (table_of s)) more there idle held refl is
+  begins_plain drawn n sessions tables text (Ok s) more there idle held is = begins_one_plain drawn n sessions tables text s more there idle held is
 
   -- a client's line does what a plain session does
   pub client_plain : (drawn n : ℕ) (sessions : Sessions) (tables : Tables) (text : List ℕ) → drawn < 2 ^ 63 → nat_lt 0 n ≡ true → AreIdle sessions → AreHeld catalog tables
