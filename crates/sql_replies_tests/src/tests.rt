@@ -5,7 +5,7 @@ use conf_file::HostEntry;
 use front_rows::{AggFun, Aggregate};
 use list_types::{Listed, Text};
 use my_messages::{CellRow, Column, Reply};
-use sql_text::ParseFault;
+use sql_text::{Admin, ParseFault};
 use sql_values::{ColumnDef, Kind, Name, Rows, TableDef, Value};
 use std::alloc::Global;
 use std::test::Fail;
@@ -465,5 +465,49 @@ fn are_totals_told(alloc: Global) -> Result<bool, Fail> {
 #[test]
 fn aggregates_are_told(rt: HostRuntime) -> Result<(), Fail> {
     assert!(rt; are_totals_told(rt.alloc())?);
+    Ok(())
+}
+
+/// The names of two tables.
+fn tables(alloc: Global) -> Result<Listed<Name>, Fail> {
+    let mut names = Listed::new(alloc);
+    names.push(name(alloc, "t")?)?;
+    names.push(name(alloc, "sales")?)?;
+    Ok(names)
+}
+
+/// The reply with these texts in rows of their own.
+fn told_texts(alloc: Global, column: &str, texts: &[&str]) -> Result<Reply, Fail> {
+    let mut columns = Listed::new(alloc);
+    columns.push(own_column(alloc, column, 45, 4096, 0xFD, 1)?)?;
+    let mut rows = Listed::new(alloc);
+    for cell in texts {
+        let mut row = Listed::new(alloc);
+        row.push(Some(text(alloc, *cell)?))?;
+        rows.push(row)?;
+    }
+    Ok(Reply::Rows {
+        columns,
+        rows,
+        status: 2,
+    })
+}
+
+fn is_admin_told(
+    alloc: Global,
+    admin: Admin,
+    column: &str,
+    texts: &[&str],
+) -> Result<bool, Fail> {
+    let reply = admin_reply(alloc, tables(alloc)?.as_slice(), admin)?;
+    Ok(reply == told_texts(alloc, column, texts)?)
+}
+
+#[test]
+fn the_server_is_told(rt: HostRuntime) -> Result<(), Fail> {
+    assert!(rt; is_admin_told(rt.alloc(), Admin::ShowTables, "Tables_in_spider", &["t", "sales"])?);
+    assert!(rt; is_admin_told(rt.alloc(), Admin::ShowDatabases, "Database", &["spider"])?);
+    assert!(rt; is_admin_told(rt.alloc(), Admin::VersionComment, "@@version_comment", &["spider front"])?);
+    assert!(rt; is_admin_told(rt.alloc(), Admin::Database, "DATABASE()", &["spider"])?);
     Ok(())
 }
