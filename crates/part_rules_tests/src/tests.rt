@@ -1,6 +1,6 @@
 //! Worked examples, and each public call with ample memory.
 
-use crate::*;
+use part_rules::*;
 use list_types::{Listed, Text};
 use sql_values::{
     ColumnDef, ColumnName, Comparison, Cond, Interval, Intervals, Keys, Kind, Literal, Literals,

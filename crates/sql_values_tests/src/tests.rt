@@ -1,4 +1,4 @@
-use super::*;
+use sql_values::*;
 use list_types::Listed;
 use sqlite_items::{Boxed, Items};
 use std::collections::{BTreeMap, HashMap};

@@ -1,4 +1,4 @@
-use crate::{DiskPair, Log, LogFault, MAX_PAYLOAD};
+use record_log::{DiskPair, Log, LogFault, MAX_PAYLOAD};
 use disk_core::{Image, MemDisk, NoMemory};
 use std::alloc::Global;
 use std::process::Abort;

@@ -1,4 +1,4 @@
-use super::*;
+use my_messages::*;
 use list_types::{Bytes, Listed};
 use my_wire::PacketReader;
 use std::test::*;
