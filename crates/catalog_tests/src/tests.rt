@@ -21,7 +21,9 @@ fn answer(alloc: Global, tables: &str) -> Result<String, AllocError> {
 
 /// How a configuration is answered whose one table has this comment.
 fn comment_answer(alloc: Global, comment: &str) -> Result<String, AllocError> {
-    let table = format!(in alloc; "[[table]]\nname = \"t\"\ncolumns = [\"k BIGINT\"]\nkey = \"k\"\ncomment = '''{comment}'''\n")?;
+    let table = format!(in alloc;
+        "[[table]]\nname = \"t\"\ncolumns = [\"k BIGINT\"]\nkey = \"k\"\ncomment = '''{comment}'''\n"
+    )?;
     answer(alloc, table.as_str())
 }
 
@@ -48,7 +50,10 @@ const COMMENTS: &[(&str, &str)] = &[
     (" \t\r\n", "bad links t.-"),
     ("srv \"s1\"", "1 tables"),
     (" srv\t\"s1 s2\" , lst \"1 3\" ", "1 tables"),
-    ("wrapper \"mysql\", table \"a b\", mbk \"2\"", "bad links t.-"),
+    (
+        "wrapper \"mysql\", table \"a b\", mbk \"2\"",
+        "bad links t.-",
+    ),
     ("srv \"\"", "bad links t.-"),
     ("srv\"s1\"", "bad comment t.- at byte 3"),
     ("srv", "bad comment t.- at byte 3"),

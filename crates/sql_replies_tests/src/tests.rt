@@ -1,10 +1,10 @@
 //! Replies against the texts and bytes that are promised.
 
-use sql_replies::*;
 use conf_file::HostEntry;
 use front_rows::{AggFun, Aggregate};
 use list_types::{Listed, Text};
 use my_messages::{CellRow, Column, Reply};
+use sql_replies::*;
 use sql_text::ParseFault;
 use sql_values::{ColumnDef, Kind, Name, Rows, TableDef, Value};
 use std::alloc::Global;
