@@ -31,6 +31,3 @@ pub use files::catalog_of;
 pub use link::{Link, Links, Status};
 pub use tables::{Part, Table};
 pub use whole::Catalog;
-
-#[cfg(test)]
-mod tests;

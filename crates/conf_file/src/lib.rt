@@ -34,6 +34,3 @@ pub use fault::{FileFault, TooMany};
 pub use laws::{addresses_have_ports, columns_are_spelled, free_names_differ};
 pub use reading::read_file;
 pub use texts::is_stored;
-
-#[cfg(test)]
-mod tests;

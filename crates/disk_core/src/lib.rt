@@ -19,6 +19,3 @@ pub use file::{FileDisk, open_file_disk};
 pub use image::Image;
 pub use memory::MemDisk;
 pub use plan::{Mishap, Pending};
-
-#[cfg(test)]
-mod tests;

@@ -31,6 +31,3 @@ pub use list_types::Text;
 pub use reply::{Cell, CellRow, CellRows, Column, Columns, Reply};
 pub use reply_reader::ReplyReader;
 pub use session_end::SessionEnd;
-
-#[cfg(test)]
-mod tests;

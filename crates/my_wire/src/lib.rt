@@ -43,6 +43,3 @@ pub use stream::{Stream, send_all};
 pub struct Status {
     pub code: u8,
 }
-
-#[cfg(test)]
-mod tests;

@@ -23,6 +23,3 @@ pub use condition_keys::keys_of;
 pub use lists::Lists;
 pub use pruning::prune;
 pub use rule::{Rule, part_of};
-
-#[cfg(test)]
-mod tests;

@@ -28,6 +28,3 @@ pub use list_types::Bytes;
 
 /// The longest payload of a record, in bytes.
 pub const MAX_PAYLOAD: u64 = 8_388_608;
-
-#[cfg(test)]
-mod tests;

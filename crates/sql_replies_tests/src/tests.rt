@@ -1,10 +1,10 @@
 //! Replies against the texts and bytes that are promised.
 
-use sql_replies::*;
 use conf_file::HostEntry;
 use front_rows::{AggFun, Aggregate};
 use list_types::{Listed, Text};
 use my_messages::{CellRow, Column, Reply};
+use sql_replies::*;
 use sql_text::{Admin, ParseFault};
 use sql_values::{ColumnDef, Kind, Name, Rows, TableDef, Value};
 use std::alloc::Global;
@@ -493,21 +493,30 @@ fn told_texts(alloc: Global, column: &str, texts: &[&str]) -> Result<Reply, Fail
     })
 }
 
-fn is_admin_told(
-    alloc: Global,
-    admin: Admin,
-    column: &str,
-    texts: &[&str],
-) -> Result<bool, Fail> {
+fn is_admin_told(alloc: Global, admin: Admin, column: &str, texts: &[&str]) -> Result<bool, Fail> {
     let reply = admin_reply(alloc, tables(alloc)?.as_slice(), admin)?;
     Ok(reply == told_texts(alloc, column, texts)?)
 }
 
 #[test]
 fn the_server_is_told(rt: HostRuntime) -> Result<(), Fail> {
-    assert!(rt; is_admin_told(rt.alloc(), Admin::ShowTables, "Tables_in_spider", &["t", "sales"])?);
+    assert!(rt;
+        is_admin_told(
+            rt.alloc(),
+            Admin::ShowTables,
+            "Tables_in_spider",
+            &["t", "sales"]
+        )?
+    );
     assert!(rt; is_admin_told(rt.alloc(), Admin::ShowDatabases, "Database", &["spider"])?);
-    assert!(rt; is_admin_told(rt.alloc(), Admin::VersionComment, "@@version_comment", &["spider front"])?);
+    assert!(rt;
+        is_admin_told(
+            rt.alloc(),
+            Admin::VersionComment,
+            "@@version_comment",
+            &["spider front"]
+        )?
+    );
     assert!(rt; is_admin_told(rt.alloc(), Admin::Database, "DATABASE()", &["spider"])?);
     Ok(())
 }

@@ -1,5 +1,5 @@
-use sql_text::*;
 use list_types::Bytes;
+use sql_text::*;
 use std::test::*;
 
 // The calls below are made by functions that promise nothing: else each assertion's proof would look into its literals.

@@ -41,8 +41,3 @@ pub use storage::{StoreFault, size, store};
 pub use table::{ColumnDef, ColumnDefs, Kind, TableDef, TableDefs};
 pub use tree::{Addend, ColumnName, Comparison, Cond, Expr, Operand};
 pub use value::{Row, Rows, Value};
-
-#[cfg(test)]
-mod key_set_tests;
-#[cfg(test)]
-mod tests;

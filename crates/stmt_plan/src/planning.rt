@@ -167,7 +167,12 @@ fn demanded(
             Ok((cond, sets)) => Ok(to_write(cond, Work::Update(sets))),
             Err(fault) => Err(fault),
         },
-        TableStatement::Delete(statement) => match asked(alloc, table, &table.name, &statement.cond) {
+        TableStatement::Delete(statement) => match asked(
+            alloc,
+            table,
+            &table.name,
+            &statement.cond,
+        ) {
             Ok(cond) => Ok(to_write(cond, Work::Delete)),
             Err(fault) => Err(fault),
         },

@@ -1,11 +1,11 @@
 //! Plans of SELECTs with ORDER BY, LIMIT and aggregates.
 
 use crate::tests::{plan_with, statement, table, two_parts};
-use stmt_plan::*;
 use front_rows::{AggFun, Sort};
 use sql_text::{AggregateCall, ScanItems};
 use sql_values::Kind;
 use std::test::*;
+use stmt_plan::*;
 
 fn planned(rt: &HostRuntime, text: &[u8]) -> Result<Plan, Fail> {
     let table = table(rt)?;

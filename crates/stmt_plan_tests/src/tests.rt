@@ -1,11 +1,11 @@
 //! Worked examples, and each public call with ample memory. Nothing here promises anything to a proof.
 
-use stmt_plan::*;
 use list_types::{Listed, Text};
 use part_rules::{Bound, Bounds, Rule};
 use sql_text::{TableStatement, parse};
 use sql_values::{ColumnDef, Kind, LockMode, Name, PartNo, Row, Rows, TableDef, Value};
 use std::test::*;
+use stmt_plan::*;
 
 pub(crate) fn name(rt: &HostRuntime, text: &str) -> Result<Name, Fail> {
     match Name::from_text(Text::from_str(rt.alloc(), text)?) {

@@ -3,13 +3,13 @@
 use crate::tests::{
     column, has_cond_of, has_places, is_told, name, plan_with, statement, two_parts,
 };
-use stmt_plan::*;
 use list_types::{Listed, Text};
 use part_rules::Rule;
 use sql_text::{Assignment, Assignments, Delete, Select, TableStatement, Update};
 use sql_values::{Addend, ColumnName, Cond, Expr, Kind, Literal, LockMode, TableDef};
 use sqlite_items::Items;
 use std::test::*;
+use stmt_plan::*;
 
 // t (k BIGINT, v VARCHAR(20), n BIGINT), by k
 fn table(rt: &HostRuntime) -> Result<TableDef, Fail> {

@@ -1,12 +1,12 @@
 //! A statement through its phases, by hand.
 
-use txn_phases::*;
 use front_rows::{AggFun, Aggregate, Sort};
 use list_types::{Listed, Text};
 use sql_text::{LinkAnswer, LinkRequest, ScanItems};
 use sql_values::{Kind, LockMode, Name, Row, Rows, Value, Xid};
 use std::alloc::Global;
 use std::test::Fail;
+use txn_phases::*;
 
 // Nothing below promises anything to a proof: else each assertion's proof would look into its literals.
 

@@ -1,4 +1,4 @@
-use crate::{Disk, Failed, Image, MemDisk, NoMemory, open_file_disk};
+use disk_core::{Disk, Failed, Image, MemDisk, NoMemory, open_file_disk};
 use std::alloc::Global;
 use std::process::Abort;
 use std::test::Fail;

@@ -1,6 +1,6 @@
 //! Sets of keys: worked examples, and each public call with ample memory.
 
-use crate::*;
+use sql_values::*;
 use std::alloc::{AllocError, Global};
 use std::test::Fail;
 

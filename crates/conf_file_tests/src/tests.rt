@@ -1,4 +1,4 @@
-use crate::{
+use conf_file::{
     BoundEntry, ConfFile, HostEntry, PartEntry, TableEntry, is_stored, read_column, read_file,
 };
 use sql_values::Kind;

@@ -1,5 +1,5 @@
-use super::*;
 use list_types::Listed;
+use sql_values::*;
 use sqlite_items::{Boxed, Items};
 use std::collections::{BTreeMap, HashMap};
 use std::test::*;

@@ -1,4 +1,4 @@
-use super::*;
+use my_wire::*;
 use std::test::*;
 
 // The forms of "Protocol::LengthEncodedInteger" at their limits.

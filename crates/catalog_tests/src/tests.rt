@@ -1,5 +1,6 @@
-use crate::comment::{CommentFault, read_comment};
-use crate::{Catalog, Link, read_catalog};
+//! Configurations with what is told of them. Nothing here promises anything to a proof.
+
+use catalog::{Catalog, Link, read_catalog};
 use list_types::Text;
 use sql_values::Name;
 use std::alloc::{AllocError, Global};
@@ -8,18 +9,6 @@ use std::test::Fail;
 /// A front, a user and two servers.
 const HEAD: &str =
     "[front]\nname = \"f\"\nlisten = \"127.0.0.1:4406\"\nuser = \"link\"\npassword = \"\"\n[[user]]\nname = \"link\"\npassword = \"\"\n[[server]]\nname = \"s1\"\naddress = \"127.0.0.1:4501\"\n[[server]]\nname = \"s2\"\naddress = \"127.0.0.1:4502\"\n";
-
-/// The place at which a comment leaves its form, or `-`.
-fn place(alloc: Global, comment: &str) -> Result<String, AllocError> {
-    match read_comment(alloc, comment.as_bytes()) {
-        Ok(_comment) => String::from_str(alloc, "-"),
-        Err(CommentFault::Form(left)) => {
-            let place = comment.len().saturating_sub(left);
-            format!(in alloc; "{place}")
-        }
-        Err(CommentFault::NoMemory) => Err(AllocError),
-    }
-}
 
 /// How a configuration with these tables is answered.
 fn answer(alloc: Global, tables: &str) -> Result<String, AllocError> {
@@ -30,9 +19,17 @@ fn answer(alloc: Global, tables: &str) -> Result<String, AllocError> {
     }
 }
 
-fn all_places(alloc: Global, rows: &[(&str, &str)]) -> Result<bool, AllocError> {
+/// How a configuration is answered whose one table has this comment.
+fn comment_answer(alloc: Global, comment: &str) -> Result<String, AllocError> {
+    let table = format!(in alloc;
+        "[[table]]\nname = \"t\"\ncolumns = [\"k BIGINT\"]\nkey = \"k\"\ncomment = '''{comment}'''\n"
+    )?;
+    answer(alloc, table.as_str())
+}
+
+fn all_comment_answers(alloc: Global, rows: &[(&str, &str)]) -> Result<bool, AllocError> {
     for (comment, expected) in rows {
-        if place(alloc, *comment)?.as_str() != *expected {
+        if comment_answer(alloc, *comment)?.as_str() != *expected {
             return Ok(false);
         }
     }
@@ -49,36 +46,39 @@ fn all_answers(alloc: Global, rows: &[(&str, &str)]) -> Result<bool, AllocError>
 }
 
 const COMMENTS: &[(&str, &str)] = &[
-    ("", "-"),
-    (" \t\r\n", "-"),
-    ("srv \"s1\"", "-"),
-    (" srv\t\"s1 s2\" , lst \"1 3\" ", "-"),
-    ("wrapper \"mysql\", table \"a b\", mbk \"2\"", "-"),
-    ("srv \"\"", "-"),
-    ("srv\"s1\"", "3"),
-    ("srv", "3"),
-    ("srv ", "4"),
-    ("srv s1", "4"),
-    ("srv \"s1", "4"),
-    ("srv \"s1\",", "9"),
-    ("srv \"s1\" lst \"1\"", "9"),
-    (", srv \"s1\"", "0"),
-    ("nope \"1\"", "0"),
-    ("srv \"s1\", srv \"s2\"", "10"),
-    ("lst \"1 2\"", "4"),
-    ("wrapper \"\"", "8"),
-    ("mbk \"0 1\"", "4"),
-    ("table \"1a\"", "6"),
-    ("srv \"s-1\"", "4"),
+    ("", "bad links t.-"),
+    (" \t\r\n", "bad links t.-"),
+    ("srv \"s1\"", "1 tables"),
+    (" srv\t\"s1 s2\" , lst \"1 3\" ", "1 tables"),
+    (
+        "wrapper \"mysql\", table \"a b\", mbk \"2\"",
+        "bad links t.-",
+    ),
+    ("srv \"\"", "bad links t.-"),
+    ("srv\"s1\"", "bad comment t.- at byte 3"),
+    ("srv", "bad comment t.- at byte 3"),
+    ("srv ", "bad comment t.- at byte 4"),
+    ("srv s1", "bad comment t.- at byte 4"),
+    ("srv \"s1", "bad comment t.- at byte 4"),
+    ("srv \"s1\",", "bad comment t.- at byte 9"),
+    ("srv \"s1\" lst \"1\"", "bad comment t.- at byte 9"),
+    (", srv \"s1\"", "bad comment t.- at byte 0"),
+    ("nope \"1\"", "bad comment t.- at byte 0"),
+    ("srv \"s1\", srv \"s2\"", "bad comment t.- at byte 10"),
+    ("lst \"1 2\"", "bad comment t.- at byte 4"),
+    ("wrapper \"\"", "bad comment t.- at byte 8"),
+    ("mbk \"0 1\"", "bad comment t.- at byte 4"),
+    ("table \"1a\"", "bad comment t.- at byte 6"),
+    ("srv \"s-1\"", "bad comment t.- at byte 4"),
     (
         "wrapper \"mysql\", srv \"s\", table \"t\", lst \"1\", mbk \"0\", srv \"s\"",
-        "55",
+        "bad comment t.- at byte 55",
     ),
 ];
 
 #[test]
 fn comments_leave_their_form_at_places(rt: HostRuntime) -> Result<(), Fail> {
-    let agree = all_places(rt.alloc(), COMMENTS)?;
+    let agree = all_comment_answers(rt.alloc(), COMMENTS)?;
     assert!(rt; agree);
     Ok(())
 }

@@ -1,7 +1,7 @@
 //! Worked examples, and each public call with ample memory.
 
-use crate::*;
 use list_types::{Listed, Text};
+use part_rules::*;
 use sql_values::{
     ColumnDef, ColumnName, Comparison, Cond, Interval, Intervals, Keys, Kind, Literal, Literals,
     Name, Operand, TableDef,

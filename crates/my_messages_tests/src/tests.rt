@@ -1,5 +1,5 @@
-use super::*;
 use list_types::{Bytes, Listed};
+use my_messages::*;
 use my_wire::PacketReader;
 use std::test::*;
 

@@ -1,5 +1,5 @@
-use crate::{DiskPair, Log, LogFault, MAX_PAYLOAD};
 use disk_core::{Image, MemDisk, NoMemory};
+use record_log::{DiskPair, Log, LogFault, MAX_PAYLOAD};
 use std::alloc::Global;
 use std::process::Abort;
 use std::test::Fail;
