@@ -11,8 +11,8 @@ use Rattle.catalog.specs.Index.{place_in}
 use Rattle.catalog.specs.Views.{View, table_name}
 use Rattle.sql_text.specs.declared.fault.ParseFault.{ParseFault}
 use Rattle.sql_text.specs.declared.link.LinkAnswer.{LinkAnswer}
-use Rattle.sql_text.specs.declared.statement.TableStatement.{TableStatement}
-use Rattle.sql_text.specs.declared.statement.TableStatement.TheVariants as client
+use Rattle.sql_text.specs.declared.statement.Statement.{Statement}
+use Rattle.sql_text.specs.declared.statement.Statement.TheVariants as client
 use Rattle.sql_text.specs.declared.statement.TableStatement.{TableStatement}
 use Rattle.sql_text.specs.Parsing.{parsed}
 use Rattle.stmt_plan.specs.declared.fault.StmtFault.{StmtFault}
@@ -206,11 +206,11 @@ begins_at catalog drawn s None = answers drawn (no_table_reply (table_of s))
 begins_at catalog drawn s (Some (number, table)) = begins_on catalog drawn s number table (refusal table.def table.rule s)
 
 -- a question about the server is answered at once, from the configuration
-abbrev pub begins_one : View → ℕ → TableStatement → Stepped
+abbrev pub begins_one : View → ℕ → Statement → Stepped
 begins_one catalog drawn (client.Table s) = begins_at catalog drawn s (table_named catalog.tables (table_of s))
 begins_one catalog drawn (client.Admin admin) = answers drawn (admin_reply (map table_name catalog.tables) admin)
 
-abbrev pub begins_by : View → ℕ → Result TableStatement ParseFault → Stepped
+abbrev pub begins_by : View → ℕ → Result Statement ParseFault → Stepped
 begins_by catalog drawn (Err fault) = answers drawn (parse_reply fault)
 begins_by catalog drawn (Ok s) = begins_one catalog drawn s
 

@@ -20,7 +20,7 @@ use catalog_plan::{PlanFault, plan};
 use list_types::Listed;
 use my_messages::Reply;
 use sql_replies::{admin_reply, log_full, no_table, parse_reply, plan_reply};
-use sql_text::{ParseFault, TableStatement, TableStatement, parse};
+use sql_text::{ParseFault, Statement, TableStatement, parse};
 use sql_values::{Interval, Name};
 use std::alloc::{AllocError, Global};
 use stmt_plan::{Plan, StmtFault};
@@ -135,14 +135,14 @@ fn begin_one(
     alloc: Global,
     catalog: &Catalog,
     drawn: u64,
-    statement: &TableStatement,
+    statement: &Statement,
 ) -> Result<Stepped, AllocError>
     ensures step { IfOk result (λ stepped. stepped ≡ begins_one catalog.now drawn statement.now) }
     ensures bytes { IfOk result (λ stepped. AnswersHaveBytes stepped.2) }
 {
     match statement {
-        TableStatement::Table(statement) => begin_statement(alloc, catalog, drawn, statement),
-        TableStatement::Admin(admin) => {
+        Statement::Table(statement) => begin_statement(alloc, catalog, drawn, statement),
+        Statement::Admin(admin) => {
             let names = table_names(alloc, catalog.tables())?;
             answered(alloc, drawn, admin_reply(alloc, names.as_slice(), *admin)?)
         }

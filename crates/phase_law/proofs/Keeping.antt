@@ -7,8 +7,8 @@ use Rattle.sql_values.specs.declared.table.TableDef.{TableDef}
 use Rattle.sql_values.specs.declared.tree.Cond.{Cond}
 use Rattle.sql_text.specs.declared.fault.ParseFault.{ParseFault}
 use Rattle.sql_text.specs.declared.statement.Insert.{Insert}
-use Rattle.sql_text.specs.declared.statement.TableStatement.{TableStatement}
-use Rattle.sql_text.specs.declared.statement.TableStatement.TheVariants as client
+use Rattle.sql_text.specs.declared.statement.Statement.{Statement}
+use Rattle.sql_text.specs.declared.statement.Statement.TheVariants as client
 use Rattle.sql_text.specs.declared.statement.TableStatement.{TableStatement}
 use Rattle.sql_text.specs.declared.statement.TableStatement.TheVariants as statement
 use Rattle.sql_text.specs.Parsing.{parsed}
@@ -135,11 +135,11 @@ at_table : (catalog : View) (tables : Tables) (s : TableStatement) (o : Option (
 at_table catalog tables s None served held is = held
 at_table catalog tables s (Some (number, table)) served held is = on_named catalog tables s number table served held is
 
-by_one : (catalog : View) (tables : Tables) (s : TableStatement) → CanBeServed catalog → AreHeld catalog tables → AreHeld catalog (exec_one catalog tables s).1
+by_one : (catalog : View) (tables : Tables) (s : Statement) → CanBeServed catalog → AreHeld catalog tables → AreHeld catalog (exec_one catalog tables s).1
 by_one catalog tables (client.Table s) served held = at_table catalog tables s (table_named catalog.tables (table_of s)) served held refl
 by_one catalog tables (client.Admin admin) served held = held
 
-by_text : (catalog : View) (tables : Tables) (r : Result TableStatement ParseFault) → CanBeServed catalog → AreHeld catalog tables → AreHeld catalog (exec_by catalog tables r).1
+by_text : (catalog : View) (tables : Tables) (r : Result Statement ParseFault) → CanBeServed catalog → AreHeld catalog tables → AreHeld catalog (exec_by catalog tables r).1
 by_text catalog tables (Err fault) served held = held
 by_text catalog tables (Ok s) served held = by_one catalog tables s served held
 

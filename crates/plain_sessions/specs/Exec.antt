@@ -11,8 +11,8 @@ use Rattle.sql_text.specs.declared.fault.ParseFault.{ParseFault}
 use Rattle.sql_text.specs.declared.statement.Select.{Select}
 use Rattle.sql_text.specs.declared.statement.SelectItems.{SelectItems}
 use Rattle.sql_text.specs.declared.statement.SelectItems.TheVariants as items
-use Rattle.sql_text.specs.declared.statement.TableStatement.{TableStatement}
-use Rattle.sql_text.specs.declared.statement.TableStatement.TheVariants as client
+use Rattle.sql_text.specs.declared.statement.Statement.{Statement}
+use Rattle.sql_text.specs.declared.statement.Statement.TheVariants as client
 use Rattle.sql_text.specs.declared.statement.TableStatement.{TableStatement}
 use Rattle.sql_text.specs.declared.statement.TableStatement.TheVariants as statement
 use Rattle.sql_text.specs.Parsing.{parsed}
@@ -131,11 +131,11 @@ exec_at tables s None = (no_table_reply (table_of s), tables)
 exec_at tables s (Some (number, table)) = on_table tables number (exec_on table s (tables number))
 
 -- a question about the server changes nothing
-abbrev pub exec_one : View → Tables → TableStatement → Reply × Tables
+abbrev pub exec_one : View → Tables → Statement → Reply × Tables
 exec_one catalog tables (client.Table s) = exec_at tables s (table_named catalog.tables (table_of s))
 exec_one catalog tables (client.Admin admin) = (admin_reply (map table_name catalog.tables) admin, tables)
 
-abbrev pub exec_by : View → Tables → Result TableStatement ParseFault → Reply × Tables
+abbrev pub exec_by : View → Tables → Result Statement ParseFault → Reply × Tables
 exec_by catalog tables (Err fault) = (parse_reply fault, tables)
 exec_by catalog tables (Ok s) = exec_one catalog tables s
 

@@ -13,8 +13,8 @@ use Rattle.catalog.specs.Index.{place_in}
 use Rattle.catalog.specs.Views.{View, table_name}
 use Rattle.catalog_plan.specs.Plans.{table_of}
 use Rattle.sql_text.specs.declared.fault.ParseFault.{ParseFault}
-use Rattle.sql_text.specs.declared.statement.TableStatement.{TableStatement}
-use Rattle.sql_text.specs.declared.statement.TableStatement.TheVariants as client_statement
+use Rattle.sql_text.specs.declared.statement.Statement.{Statement}
+use Rattle.sql_text.specs.declared.statement.Statement.TheVariants as client_statement
 use Rattle.sql_text.specs.declared.statement.TableStatement.{TableStatement}
 use Rattle.sql_text.specs.Parsing.{parsed}
 use Rattle.stmt_plan.specs.declared.fault.StmtFault.{StmtFault}
@@ -232,7 +232,7 @@ module _ (go_through : StatementsGoThrough) (keep : StatementsKeepTables) (catal
   begins_at_plain drawn n sessions tables text s (Some (number, table)) more there idle held found is =
       begins_on_plain drawn n sessions tables text s number table (refusal table.def table.rule s) more there idle held found is refl
 
-  begins_one_plain : (drawn n : ℕ) (sessions : Sessions) (tables : Tables) (text : List ℕ) (s : TableStatement) → (drawn == 2 ^ 64 - 1) ≡ false
+  begins_one_plain : (drawn n : ℕ) (sessions : Sessions) (tables : Tables) (text : List ℕ) (s : Statement) → (drawn == 2 ^ 64 - 1) ≡ false
       → lookup (is_at (nat_cmp n)) sessions ≡ Some Idle → AreIdle sessions → AreHeld catalog tables → exec catalog text tables ≡ exec_one catalog tables s
       → DoesPlain catalog drawn tables text (from_begin catalog sessions n tables (begins_one catalog drawn s))
   begins_one_plain drawn n sessions tables text (client_statement.Table s) more there idle held is =
@@ -240,7 +240,7 @@ module _ (go_through : StatementsGoThrough) (keep : StatementsKeepTables) (catal
   begins_one_plain drawn n sessions tables text (client_statement.Admin admin) more there idle held is =
       refuses catalog drawn n sessions tables text (admin_reply (map table_name catalog.tables) admin) there idle is
 
-  begins_plain : (drawn n : ℕ) (sessions : Sessions) (tables : Tables) (text : List ℕ) (read : Result TableStatement ParseFault) → (drawn == 2 ^ 64 - 1) ≡ false
+  begins_plain : (drawn n : ℕ) (sessions : Sessions) (tables : Tables) (text : List ℕ) (read : Result Statement ParseFault) → (drawn == 2 ^ 64 - 1) ≡ false
       → lookup (is_at (nat_cmp n)) sessions ≡ Some Idle → AreIdle sessions → AreHeld catalog tables → exec catalog text tables ≡ exec_by catalog tables read
       → DoesPlain catalog drawn tables text (from_begin catalog sessions n tables (begins_by catalog drawn read))
   begins_plain drawn n sessions tables text (Err fault) more there idle held is = refuses catalog drawn n sessions tables text (parse_reply fault) there idle is
