@@ -1,4 +1,5 @@
 pub mod Inserts
+pub mod Joins
 pub mod Partitions
 pub mod Rows
 pub mod Scans

@@ -5,6 +5,15 @@ use sql_values::{ColumnName, Cond, Expr, Literals, LockMode, Name};
 /// A statement of a client.
 #[derive(Debug, Drop)]
 pub enum Statement {
+    /// A statement on tables.
+    Table(TableStatement),
+    /// A question about the server.
+    Admin(Admin),
+}
+
+/// A statement on tables.
+#[derive(Debug, Drop)]
+pub enum TableStatement {
     /// INSERT.
     Insert(Insert),
     /// SELECT.
@@ -13,6 +22,19 @@ pub enum Statement {
     Update(Update),
     /// DELETE.
     Delete(Delete),
+}
+
+/// A question about the server, as programs of administration and connectors put it.
+#[derive(Clone, Copy, Debug, PartialEq, Eq)]
+pub enum Admin {
+    /// SHOW TABLES.
+    ShowTables,
+    /// SHOW DATABASES.
+    ShowDatabases,
+    /// SELECT @@version_comment, with LIMIT 1 or without.
+    VersionComment,
+    /// SELECT DATABASE().
+    Database,
 }
 
 /// Names of columns, in order.
@@ -38,6 +60,24 @@ pub struct Select {
     /// By what the rows are sorted, the first counting most. It is empty where the items are aggregates, or no ORDER BY stands there.
     pub order: SortList,
     /// Which of the rows it gives. It is missing where the items are aggregates.
+    pub limit: Option<Limit>,
+    /// How it says that the rows are locked: FOR UPDATE is `Exclusive`, LOCK IN SHARE MODE is `Shared`.
+    pub lock: Option<LockMode>,
+}
+
+/// SELECT of two tables: items of the pairs of their rows for which conditions hold, or aggregates over these pairs.
+#[derive(Debug, Drop)]
+pub struct JoinSelect {
+    pub items: SelectItems,
+    pub left: Tab,
+    /// It is known by another name than the left table.
+    pub right: Tab,
+    /// The condition behind ON. Behind a comma there is none, and behind JOIN there may be none.
+    pub on: Option<Cond>,
+    pub cond: Option<Cond>,
+    /// By what the pairs are sorted, the first counting most. It is empty where the items are aggregates, or no ORDER BY stands there.
+    pub order: SortList,
+    /// Which of the pairs it gives. It is missing where the items are aggregates.
     pub limit: Option<Limit>,
     /// How it says that the rows are locked: FOR UPDATE is `Exclusive`, LOCK IN SHARE MODE is `Shared`.
     pub lock: Option<LockMode>,

@@ -4,6 +4,7 @@ pub mod Chosen
 pub mod Faults
 pub mod Finished
 pub mod Inserts
+pub mod Joins
 pub mod Laws
 pub mod Plans
 pub mod Refusals

@@ -84,9 +84,12 @@ named_columns select = item_columns select.items ++ (where_columns select.cond +
 abbrev pub place_of : TableDef → ColumnName → ℕ
 place_of table name = unwrap_or (position (λ (column : ColumnDef). may_mean name (table.name, column)) table.columns) 0
 
--- the answer's column for an item, under its alias, where it has one, or its column's name
+-- the answer's column for an item, under its alias, where it has one, or its column's name; it is known at which place each column stands
+abbrev pub pick_by : (ColumnName → ℕ) → Item → Pick
+pick_by at item = record { column = at item.column; name = unwrap_or item.alias item.column.column }
+
 abbrev pub pick_of : TableDef → Item → Pick
-pick_of table item = record { column = place_of table item.column; name = unwrap_or item.alias item.column.column }
+pick_of table = pick_by (place_of table)
 
 -- all columns, from this place on, under their own names
 abbrev pub all_picks : ℕ → List ColumnDef → List Pick
@@ -108,22 +111,32 @@ kind_at table place = option_map_or (λ (column : ColumnDef). column.kind) (slic
 abbrev pub of_column : TableDef → AggFun → ColumnName → Aggregate
 of_column table f name = record { fun = f; column = place_of table name; kind = kind_at table (place_of table name) }
 
+-- what a call means, where it is known what a function of a column is
+abbrev pub aggregate_by : (AggFun → ColumnName → Aggregate) → AggregateCall → Aggregate
+aggregate_by of call.Count = record { fun = fun.Count; column = 0; kind = BigInt }
+aggregate_by of (call.Sum name) = of fun.Sum name
+aggregate_by of (call.Min name) = of fun.Min name
+aggregate_by of (call.Max name) = of fun.Max name
+
 abbrev pub aggregate_of : TableDef → AggregateCall → Aggregate
-aggregate_of table call.Count = record { fun = fun.Count; column = 0; kind = BigInt }
-aggregate_of table (call.Sum name) = of_column table fun.Sum name
-aggregate_of table (call.Min name) = of_column table fun.Min name
-aggregate_of table (call.Max name) = of_column table fun.Max name
+aggregate_of table = aggregate_by (of_column table)
 
 -- a sum is one of numbers
+abbrev pub call_fits_among : List TableDef → AggregateCall → Bool
+call_fits_among tables call.Count = true
+call_fits_among tables (call.Sum name) = are_comparable (column_kind tables name) (Some BigInt)
+call_fits_among tables (call.Min name) = true
+call_fits_among tables (call.Max name) = true
+
+abbrev pub calls_fit_among : List TableDef → SelectItems → Bool
+calls_fit_among tables (items.Aggregates list) = list_all (λ (item : AggregateItem). call_fits_among tables item.call) list
+calls_fit_among tables _ = true
+
 abbrev pub call_fits : TableDef → AggregateCall → Bool
-call_fits table call.Count = true
-call_fits table (call.Sum name) = are_comparable (column_kind (table ∷ []) name) (Some BigInt)
-call_fits table (call.Min name) = true
-call_fits table (call.Max name) = true
+call_fits table = call_fits_among (table ∷ [])
 
 abbrev pub calls_fit : TableDef → SelectItems → Bool
-calls_fit table (items.Aggregates list) = list_all (λ (item : AggregateItem). call_fits table item.call) list
-calls_fit table _ = true
+calls_fit table = calls_fit_among (table ∷ [])
 
 -- a name as it is written, without backquotes
 abbrev pub written_name : ColumnName → List ℕ
@@ -136,16 +149,22 @@ call_text (call.Min name) = codes "MIN(" ++ (written_name name ++ codes ")")
 call_text (call.Max name) = codes "MAX(" ++ (written_name name ++ codes ")")
 
 -- the answer's column for an aggregate, under its alias, where it has one, or its call's text
+abbrev pub cell_column_by : (AggregateCall → Aggregate) → AggregateItem → CellColumn
+cell_column_by meant item = record { aggregate = meant item.call; name = unwrap_or item.alias (call_text item.call) }
+
 abbrev pub cell_column : TableDef → AggregateItem → CellColumn
-cell_column table item = record { aggregate = aggregate_of table item.call; name = unwrap_or item.alias (call_text item.call) }
+cell_column table = cell_column_by (aggregate_of table)
 
 abbrev pub aggregates_of : List CellColumn → List Aggregate
 aggregates_of columns = map (λ (column : CellColumn). column.aggregate) columns
 
 -- ORDER BY AND LIMIT
 
+abbrev pub sort_by : (ColumnName → ℕ) → SortItem → Sort
+sort_by at item = record { column = at item.column; rising = item.rising }
+
 abbrev pub sort_of : TableDef → SortItem → Sort
-sort_of table item = record { column = place_of table item.column; rising = item.rising }
+sort_of table = sort_by (place_of table)
 
 -- by the columns of ORDER BY; rows that are equal by these, or all rows where there are none, by the key
 abbrev pub order_of : TableDef → List SortItem → List Sort

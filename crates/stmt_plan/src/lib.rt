@@ -25,8 +25,8 @@ mod unqualified;
 pub use aggregates::aggregate_of;
 pub use fault::{RowFault, StmtFault};
 pub use planned::{
-    AnswerColumns, CellColumn, CellColumns, Pick, PickList, Picks, Plan, Selected, SetColumn,
-    SetColumns, Work,
+    AnswerColumns, CellColumn, CellColumns, JoinPlan, JoinWork, PairPicks, Pick, PickList, Picks,
+    Plan, Selected, SetColumn, SetColumns, Side, Work,
 };
 pub use planning::plan_on;
 pub use tables::is_table;

@@ -5,7 +5,9 @@ ghost use Rattle.stmt_plan.specs.Settings.{lone_literal as literal_alone};
 use front_rows::{Aggregate, Order};
 use list_types::{Listed, Text};
 use sql_text::ScanItems;
-use sql_values::{Cond, Expr, Intervals, Literal, LockMode, Name, PartNos, Rows, TableNo};
+use sql_values::{
+    Cond, Expr, Intervals, Literal, LockMode, Name, PartNos, Rows, TableDef, TableDefs, TableNo,
+};
 
 /// What a statement needs of the partitions of its table.
 #[derive(Debug, Drop)]
@@ -50,6 +52,60 @@ pub struct Selected {
     pub most: Option<u64>,
 }
 
+/// What a SELECT of two tables needs of the partitions of both, and how their rows go together.
+///
+/// A row of the join has the values of a row of the left table, then those of one of the right table.
+#[derive(Debug, Drop)]
+pub struct JoinPlan {
+    pub left: Side,
+    pub right: Side,
+    /// How the rows that are read are locked.
+    pub mode: LockMode,
+    /// What holds on a row of the join: ON and WHERE.
+    pub on: Option<Cond>,
+    /// Both tables, under the names by which that condition knows them.
+    pub tables: TableDefs,
+    pub work: JoinWork,
+}
+
+/// What a SELECT of two tables needs of one of them.
+#[derive(Debug, Drop)]
+pub struct Side {
+    pub table: TableNo,
+    /// The partitions that are asked, rising.
+    pub parts: PartNos,
+    /// The keys that a row may have for which the condition holds.
+    pub keys: Intervals,
+    /// Of which rows. Columns stand without their table.
+    pub cond: Option<Cond>,
+}
+
+/// What is done with the rows of a join. Columns of the right table count on from those of the left.
+#[derive(Debug, Drop)]
+pub enum JoinWork {
+    /// They are sorted, the first `skip` are left out, and these columns of at most `most` of the others are the answer.
+    Select {
+        picks: PairPicks,
+        order: Order,
+        skip: u64,
+        most: Option<u64>,
+    },
+    /// These aggregates are the answer, as one row.
+    Aggregate(CellColumns),
+}
+
+/// The columns of an answer over two tables.
+#[derive(Clone, Debug, PartialEq, Eq, Drop)]
+pub struct PairPicks {
+    /// The name by which the statement knows the left table.
+    pub known: Name,
+    /// The right table, under its own name.
+    pub second: TableDef,
+    /// The name by which the statement knows it.
+    pub second_known: Name,
+    pub picks: PickList,
+}
+
 /// An aggregate, and the name that the answer gives it.
 #[derive(Clone, Debug, PartialEq, Eq, Drop)]
 pub struct CellColumn {
@@ -65,6 +121,8 @@ pub type CellColumns = Listed<CellColumn>;
 pub enum AnswerColumns {
     /// Columns of rows.
     Picks(Picks),
+    /// Columns of the rows of a join.
+    Pairs(PairPicks),
     /// Aggregates over rows.
     Cells(CellColumns),
 }
