@@ -138,8 +138,8 @@ or_nothing : (b : Bool) → b ≡ (b || false)
 or_nothing true = refl
 or_nothing false = refl
 
-other_kind : (f : Fixed) (n : ℕ) → 52 ≤ n → false ≡ ((n == number_of f) || false)
-other_kind f n h = let below : number_of f < 52 = number_below f in let e : (n == number_of f) ≡ false = grind (arith, nat_tests) in rw e refl
+other_kind : (f : Fixed) (n : ℕ) → 60 ≤ n → false ≡ ((n == number_of f) || false)
+other_kind f n h = let below : number_of f < 60 = number_below f in let e : (n == number_of f) ≡ false = grind (arith, nat_tests) in rw e refl
 
 head_kind : (f : Fixed) (t : Token) (ts : List Token) → begins f (t ∷ ts) ≡ member (kind_of t) (number_of f ∷ [])
 head_kind f (tokens.Fixed g) ts = or_nothing (number_of g == number_of f)

@@ -5,7 +5,7 @@ use Rattle.sql_values.specs.declared.tree.Expr.{Expr}
 use Rattle.sql_values.specs.declared.tree.Expr.TheVariants as exprs
 use Rattle.sql_values.specs.declared.tree.Addend.{Addend}
 use Rattle.sql_text.specs.declared.token.Fixed.{Fixed}
-use Rattle.sql_text.specs.declared.token.Fixed.TheVariants.{And, As, Asc, Between, By, Count, Delete, Desc, For, From, In, Insert, Into, Limit, Lock, Max, Min, Mode, Not, Null, Offset, Or, Order, Select, Set, Share, Sum, Update, Values, Where, Commit, End, Prepare, Recover, Replace, Rollback, Start, Xa, Open, Close, Comma, Dot, Star, Plus, Minus, Semicolon, Equal, NotEqual, Less, AtMost, Greater, AtLeast}
+use Rattle.sql_text.specs.declared.token.Fixed.TheVariants.{And, As, Asc, Between, By, Count, Database, Databases, Delete, Desc, For, From, In, Inner, Insert, Into, Join, Limit, Lock, Max, Min, Mode, Not, Null, Offset, On, Or, Order, Select, Set, Share, Show, Sum, Tables, Update, Values, Where, VersionComment, Commit, End, Prepare, Recover, Replace, Rollback, Start, Xa, Open, Close, Comma, Dot, Star, Plus, Minus, Semicolon, Equal, NotEqual, Less, AtMost, Greater, AtLeast}
 use Rattle.sql_text.specs.declared.token.Token.{Token}
 use Rattle.sql_text.specs.declared.token.Token.TheVariants as tokens
 use Rattle.sql_text.specs.declared.fault.Stop.{Stop}
@@ -28,6 +28,14 @@ sign_tells_fixed As = refl
 sign_tells_fixed Asc = refl
 sign_tells_fixed Desc = refl
 sign_tells_fixed Offset = refl
+sign_tells_fixed Database = refl
+sign_tells_fixed Databases = refl
+sign_tells_fixed Inner = refl
+sign_tells_fixed Join = refl
+sign_tells_fixed On = refl
+sign_tells_fixed Show = refl
+sign_tells_fixed Tables = refl
+sign_tells_fixed VersionComment = refl
 sign_tells_fixed Between = refl
 sign_tells_fixed Delete = refl
 sign_tells_fixed For = refl

@@ -7,7 +7,7 @@ use Rattle.sql_text.specs.declared.token.Token.{Token}
 use Rattle.sql_text.specs.declared.token.Token.TheVariants as tokens
 use Rattle.sql_text.specs.declared.fault.Stop.{Stop}
 use Rattle.sql_text.specs.Rules.{Rule, is, one, ◌⊳◌, ◌▷◌}
-use Rattle.sql_text.specs.declared.token.Fixed.TheVariants.{And, As, Asc, Between, By, Count, Delete, Desc, For, From, In, Insert, Into, Limit, Lock, Max, Min, Mode, Not, Null, Offset, Or, Order, Select, Set, Share, Sum, Update, Values, Where, Commit, End, Prepare, Recover, Replace, Rollback, Start, Xa, Open, Close, Comma, Dot, Star, Plus, Minus, Semicolon, Equal, NotEqual, Less, AtMost, Greater, AtLeast}
+use Rattle.sql_text.specs.declared.token.Fixed.TheVariants.{And, As, Asc, Between, By, Count, Database, Databases, Delete, Desc, For, From, In, Inner, Insert, Into, Join, Limit, Lock, Max, Min, Mode, Not, Null, Offset, On, Or, Order, Select, Set, Share, Show, Sum, Tables, Update, Values, Where, VersionComment, Commit, End, Prepare, Recover, Replace, Rollback, Start, Xa, Open, Close, Comma, Dot, Star, Plus, Minus, Semicolon, Equal, NotEqual, Less, AtMost, Greater, AtLeast}
 use Rattle.sql_text.specs.Places.{is_opening}
 use Rattle.sql_text.specs.Reading.{◌>>=◌, number_of, syntax, value_before, one_at, expect, is_fixed}
 
@@ -277,7 +277,7 @@ pub expected : (f : Fixed) (ts : List Token) → expect f (tokens.Fixed f ∷ ts
 unfolding expect
 expected f ts = let e : (number_of f == number_of f) ≡ true = grind (arith, nat_tests) in rw e refl
 
-pub number_below : (f : Fixed) → number_of f < 52
+pub number_below : (f : Fixed) → number_of f < 60
 number_below And = omega arith
 number_below As = omega arith
 number_below Between = omega arith
@@ -330,6 +330,14 @@ number_below Minus = omega arith
 number_below Asc = omega arith
 number_below Desc = omega arith
 number_below Offset = omega arith
+number_below Database = omega arith
+number_below Databases = omega arith
+number_below Inner = omega arith
+number_below Join = omega arith
+number_below On = omega arith
+number_below Show = omega arith
+number_below Tables = omega arith
+number_below VersionComment = omega arith
 
 -- what a keyword's number stands for
 named : ℕ → Fixed
@@ -341,7 +349,8 @@ named n =
     else (if n == 26 then Commit else (if n == 27 then Count else (if n == 28 then Delete else (if n == 29 then End else (if n == 30 then For else (if n == 31 then Limit else (if n == 32 then Lock else
     (if n == 33 then Max else (if n == 34 then Min else (if n == 35 then Mode else (if n == 36 then Order else (if n == 37 then Prepare else (if n == 38 then Recover else (if n == 39 then Replace else
     (if n == 40 then Rollback else (if n == 41 then Share else (if n == 42 then Start else (if n == 43 then Sum else (if n == 44 then Update else (if n == 45 then Xa else (if n == 46 then Set else (if n == 47 then Plus else
-    (if n == 48 then Minus else (if n == 49 then Asc else (if n == 50 then Desc else Offset))))))))))))))))))))))))))))))))))))))))))))))))))
+    (if n == 48 then Minus else (if n == 49 then Asc else (if n == 50 then Desc else (if n == 51 then Offset else
+    (if n == 52 then Database else (if n == 53 then Databases else (if n == 54 then Inner else (if n == 55 then Join else (if n == 56 then On else (if n == 57 then Show else (if n == 58 then Tables else VersionComment))))))))))))))))))))))))))))))))))))))))))))))))))))))))))
 
 named_number : (f : Fixed) → named (number_of f) ≡ f
 unfolding named
@@ -397,6 +406,14 @@ named_number Minus = refl
 named_number Asc = refl
 named_number Desc = refl
 named_number Offset = refl
+named_number Database = refl
+named_number Databases = refl
+named_number Inner = refl
+named_number Join = refl
+named_number On = refl
+named_number Show = refl
+named_number Tables = refl
+named_number VersionComment = refl
 
 pub is_fixed_is : (f : Fixed) (t : Token) → is_fixed f t ≡ true → t ≡ tokens.Fixed f
 is_fixed_is f (tokens.Fixed g) h =

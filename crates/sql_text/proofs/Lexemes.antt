@@ -13,17 +13,17 @@ use Rattle.std.proofs.lemmas.Bool.Decides.{nat_tests}
 use Rattle.std.proofs.Common.{rules}
 use Rattle.sql_values.specs.Names.{is_name, begins_name, continues_name}
 use Rattle.sql_text.specs.declared.token.Fixed.{Fixed}
-use Rattle.sql_text.specs.declared.token.Fixed.TheVariants.{And, As, Between, By, Count, Delete, Desc, For, From, In, Insert, Into, Limit, Lock, Max, Min, Mode, Not, Null, Offset, Or, Order, Select, Set, Share, Sum, Update, Values, Where, Open, Close, Comma, Dot, Star, Plus, Minus, Equal, NotEqual, Less, AtMost, Greater, AtLeast}
+use Rattle.sql_text.specs.declared.token.Fixed.TheVariants.{And, As, Between, By, Count, Database, Databases, Delete, Desc, For, From, In, Insert, Into, Limit, Lock, Max, Min, Mode, Not, Null, Offset, Or, Order, Select, Set, Share, Show, Sum, Tables, Update, Values, Where, VersionComment, Open, Close, Comma, Dot, Star, Plus, Minus, Equal, NotEqual, Less, AtMost, Greater, AtLeast}
 use Rattle.sql_values.specs.declared.tree.Comparison.{Comparison}
 use Rattle.sql_values.specs.declared.tree.Comparison.TheVariants as comparisons
 use Rattle.sql_text.specs.Grammar.{comparison_of}
 use Rattle.sql_text.specs.declared.token.Token.{Token}
 use Rattle.sql_text.specs.declared.token.Token.TheVariants as tokens
-use Rattle.sql_text.specs.Tokens.{run, value_after, digits_token, signed_token, Plain, onto, text_from, up_to, lexeme_at, is_bad, is_blank, starts, rest_of, comment_at, skipped, seen, word_at, word_token, keyword_of, digits_at, other_at, ends_operand}
+use Rattle.sql_text.specs.Tokens.{run, value_after, digits_token, signed_token, Plain, onto, text_from, up_to, lexeme_at, is_bad, is_blank, starts, rest_of, comment_at, skipped, seen, word_at, word_token, keyword_of, variable_token, begins_word, digits_at, other_at, ends_operand}
 use Rattle.sql_text.specs.Printing.{escaped, quoted, name_text, comparison_text}
 use Rattle.sql_text.proofs.Fields.{and_true}
 use Rattle.sql_text.proofs.Bytes.{name_utf8}
-use Rattle.sql_text.proofs.Written.{Has, has_token, has_symbol, has_blank, apart_from, behind_token, Stops, AtomAt, Atom, Suffix, PrefixAt, Prefix, SeparatorAt, Separator, prefix_atom, prefix_prefix, separator_atom, separator_prefix}
+use Rattle.sql_text.proofs.Written.{Has, has_token, has_symbol, has_blank, apart_from, behind_token, Stops, AtomAt, Atom, Suffix, PrefixAt, Prefix, SeparatorAt, Separator, prefix_atom, prefix_prefix, separator_alone, separator_atom, separator_prefix}
 
 -- NAMES
 
@@ -224,6 +224,10 @@ pub bare_at : (w rest : List ℕ) → list_all continues_name w ≡ true → key
 bare_at w rest h k n s =
     ap (λ (r : List ℕ × List ℕ). (word_token (keyword_of r.0) r.0, r.1)) (word_run w rest h s) ∙ ap (λ (o : Option Fixed). (word_token o w, rest)) k ∙ (rw n refl)
 
+-- the variable before what doesn't go on with it
+variable_lexeme : (operand : Bool) (rest : List ℕ) → Stops rest → lexeme_at operand (64 ∷ (codes "@version_comment" ++ rest)) ≡ (Some (tokens.Fixed VersionComment), rest)
+variable_lexeme operand rest stops = ap (λ (r : List ℕ × List ℕ). seen (variable_token r.0, r.1)) (word_run (codes "version_comment") rest refl stops)
+
 -- PARTS OF A TEXT
 
 -- a token that is no bad one
@@ -325,7 +329,7 @@ module _ (change : Token → Token) (fixes : Fixes change) where
   }
 
   -- one symbol
-  pub symbol : (c : ℕ) (f : Fixed) (ends : Bool) → continues_name c ≡ false → (continues_name c || c == 39) ≡ false → ((operand : Bool) (rest : List ℕ) → lexeme_at operand (c ∷ rest) ≡ (Some (tokens.Fixed f), rest)) → ends_operand (tokens.Fixed f) ≡ ends
+  pub symbol : (c : ℕ) (f : Fixed) (ends : Bool) → begins_word c ≡ false → (continues_name c || c == 39) ≡ false → ((operand : Bool) (rest : List ℕ) → lexeme_at operand (c ∷ rest) ≡ (Some (tokens.Fixed f), rest)) → ends_operand (tokens.Fixed f) ≡ ends
       → is_plain (c ∷ []) ≡ true → (SeparatorAt change) ends (c ∷ []) (tokens.Fixed f ∷ [])
   symbol c f ends other stops e is u = record {
     reads = λ before rest more again. has_symbol change before c rest (tokens.Fixed f) (tokens.Fixed f) ends rest more (fixes.fixed f) other (e before.operand rest) refl is (omega arith) again;
@@ -501,6 +505,33 @@ module _ (change : Token → Token) (fixes : Fixes change) where
 
   pub max_open : (Prefix change) (codes "MAX(") (tokens.Fixed Max ∷ tokens.Fixed Open ∷ [])
   max_open = opened_word 77 (codes "AX") Max (λ rest. refl) refl refl
+
+  -- THE WORDS OF ADMINISTRATION
+
+  show_prefix : (Prefix change) (codes "SHOW ") (tokens.Fixed Show ∷ [])
+  show_prefix = leading 83 (codes "HOW") Show (λ operand rest. refl) refl refl
+
+  pub show_tables : (Atom change) (codes "SHOW TABLES") (tokens.Fixed Show ∷ tokens.Fixed Tables ∷ [])
+  show_tables =
+      (prefix_atom change) (codes "SHOW ") (codes "TABLES") (tokens.Fixed Show ∷ []) (tokens.Fixed Tables ∷ []) show_prefix
+      (word_atom false 84 (codes "ABLES") Tables (λ rest stops. ap seen (keyword_at (codes "TABLES") rest Tables refl refl stops)) refl)
+
+  pub show_databases : (Atom change) (codes "SHOW DATABASES") (tokens.Fixed Show ∷ tokens.Fixed Databases ∷ [])
+  show_databases =
+      (prefix_atom change) (codes "SHOW ") (codes "DATABASES") (tokens.Fixed Show ∷ []) (tokens.Fixed Databases ∷ []) show_prefix
+      (word_atom false 68 (codes "ATABASES") Databases (λ rest stops. ap seen (keyword_at (codes "DATABASES") rest Databases refl refl stops)) refl)
+
+  pub version_comment : (Atom change) (codes "SELECT @@version_comment") (tokens.Fixed Select ∷ tokens.Fixed VersionComment ∷ [])
+  version_comment =
+      (prefix_atom change) (codes "SELECT ") (codes "@@version_comment") (tokens.Fixed Select ∷ []) (tokens.Fixed VersionComment ∷ []) select_prefix
+      (word_atom false 64 (codes "@version_comment") VersionComment (λ rest stops. variable_lexeme false rest stops) refl)
+
+  pub database_call : (Atom change) (codes "SELECT DATABASE()") (tokens.Fixed Select ∷ tokens.Fixed Database ∷ tokens.Fixed Open ∷ tokens.Fixed Close ∷ [])
+  database_call =
+      (prefix_atom change) (codes "SELECT ") (codes "DATABASE()") (tokens.Fixed Select ∷ []) (tokens.Fixed Database ∷ tokens.Fixed Open ∷ tokens.Fixed Close ∷ []) select_prefix
+      ((prefix_atom change) (codes "DATABASE(") (codes ")") (tokens.Fixed Database ∷ tokens.Fixed Open ∷ []) (tokens.Fixed Close ∷ [])
+      (opened_word 68 (codes "ATABASE") Database (λ rest. refl) refl refl)
+      ((separator_alone change) (codes ")") (tokens.Fixed Close ∷ []) close_symbol))
 
   -- THE WORDS OF LOCKS
 

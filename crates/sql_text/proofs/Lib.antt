@@ -4,6 +4,7 @@ pub mod Fields
 pub mod Choices
 pub mod Nested
 pub mod ReadRules
+pub mod SelectRules
 pub mod ExprRules
 pub mod StatementRules
 pub mod Wholes

@@ -11,6 +11,7 @@ use Rattle.sql_values.specs.declared.tree.Cond.{Cond}
 use Rattle.sql_values.specs.declared.tree.Cond.TheVariants as conds
 use Rattle.sql_values.specs.declared.places.LockMode.TheVariants as locks
 use Rattle.sql_text.specs.declared.statement.Statement.TheVariants as statements
+use Rattle.sql_text.specs.declared.statement.TableStatement.TheVariants as table_statements
 use Rattle.sql_text.specs.declared.statement.SelectItems.{SelectItems}
 use Rattle.sql_text.specs.declared.statement.SelectItems.TheVariants as items
 use Rattle.sql_text.specs.declared.statement.Item.{Item}
@@ -19,14 +20,14 @@ use Rattle.sql_text.specs.declared.statement.Limit.{Limit as RowLimit}
 use Rattle.sql_text.specs.declared.link.AggregateCall.{AggregateCall}
 use Rattle.sql_text.specs.declared.link.AggregateCall.TheVariants as calls
 use Rattle.sql_text.specs.declared.token.Fixed.{Fixed}
-use Rattle.sql_text.specs.declared.token.Fixed.TheVariants.{And, As, Asc, Between, By, Count, Delete, Desc, For, From, In, Insert, Into, Limit, Lock, Max, Min, Mode, Not, Null, Offset, Or, Order, Select, Set, Share, Sum, Update, Values, Where, Commit, End, Prepare, Recover, Replace, Rollback, Start, Xa, Open, Close, Comma, Dot, Star, Plus, Minus, Semicolon, Equal, NotEqual, Less, AtMost, Greater, AtLeast}
+use Rattle.sql_text.specs.declared.token.Fixed.TheVariants.{And, As, Asc, Between, By, Count, Database, Databases, Delete, Desc, For, From, In, Inner, Insert, Into, Join, Limit, Lock, Max, Min, Mode, Not, Null, Offset, On, Or, Order, Select, Set, Share, Show, Sum, Tables, Update, Values, Where, VersionComment, Commit, End, Prepare, Recover, Replace, Rollback, Start, Xa, Open, Close, Comma, Dot, Star, Plus, Minus, Semicolon, Equal, NotEqual, Less, AtMost, Greater, AtLeast}
 use Rattle.sql_text.specs.declared.token.Token.{Token}
 use Rattle.sql_text.specs.declared.token.Token.TheVariants as tokens
 use Rattle.sql_text.specs.declared.fault.Stop.{Stop}
 use Rattle.sql_text.specs.Rules.{Rule, is, one, ◌⊳◌, ◌▷◌, ◌∣◌, opens, series, parenthesized, optional}
 use Rattle.sql_text.specs.Grammar.{name_of, literal_of, comparison_of, count_of, name, literal, table, column, alias, operand, literal_list, comparison, joined, conj_over, cond_over, neg, is_spider, spider_of}
-use Rattle.sql_text.specs.Grammar.{cond as cond_rule, of_column, aggregate, tuple, column_list, insert, item, column_items, aggregate_item, aggregate_items, select_items, tab, where_cond, direction, sort, sorts, order, behind_count, limits, limit, lock, locked, select, delete}
-use Rattle.sql_text.specs.Reading.{◌>>=◌, number_of, stands, begins, behind, expect, open_at, too_deep, syntax, one_at, name_at, literal_at, head_of, behind_head_at, table_at, column_at, some_name_at, alias_at, operand_at, literal_list_at, compared_at, listed_at, ranged_at, behind_not_at, behind_column_at, comparison_at, conj_by, cond_by, closed_by, neg_at, cond_at, column_list_at, insert_at, star_at, count_at, of_column_at, aggregate_at, item_at, column_items_at, aggregate_item_at, aggregate_items_at, select_items_at, tab_at, where_at, direction_at, sort_at, sort_list_at, sorts_at, order_at, behind_count_at, counts_at, limits_at, limit_at, share_at, for_update_at, lock_at, locked_at, select_at, delete_at, series_at, parenthesized_at, further_at, with_front}
+use Rattle.sql_text.specs.Grammar.{cond as cond_rule, of_column, aggregate, tuple, column_list, insert, item, column_items, aggregate_item, aggregate_items, select_items, tab, where_cond, direction, sort, sorts, order, behind_count, limits, limit, lock, locked, delete}
+use Rattle.sql_text.specs.Reading.{◌>>=◌, number_of, stands, begins, behind, expect, open_at, too_deep, syntax, one_at, name_at, literal_at, head_of, behind_head_at, table_at, column_at, some_name_at, alias_at, operand_at, literal_list_at, compared_at, listed_at, ranged_at, behind_not_at, behind_column_at, comparison_at, conj_by, cond_by, closed_by, neg_at, cond_at, column_list_at, insert_at, star_at, count_at, of_column_at, aggregate_at, item_at, column_items_at, aggregate_item_at, aggregate_items_at, select_items_at, tab_at, where_at, direction_at, sort_at, sort_list_at, sorts_at, order_at, behind_count_at, counts_at, limits_at, limit_at, share_at, for_update_at, lock_at, locked_at, delete_at, series_at, parenthesized_at, further_at, with_front}
 use Rattle.sql_text.proofs.Fields.{Reads, Rules, kind_of, member, apart, Clear, Some_text, IsField, or_true, and_true, both_false, is_field, one_field, fixed_field, then_field}
 use Rattle.sql_text.proofs.Choices.{Tells, begins_tells, either_tells, same_reader, same_rule, either_field, fixed_or, optional_field, looked}
 use Rattle.sql_text.proofs.Nested.{zero_field, suc_field, parenthesized_field, few_field, series_field}
@@ -118,6 +119,14 @@ literal_tells_fixed As = refl
 literal_tells_fixed Asc = refl
 literal_tells_fixed Desc = refl
 literal_tells_fixed Offset = refl
+literal_tells_fixed Database = refl
+literal_tells_fixed Databases = refl
+literal_tells_fixed Inner = refl
+literal_tells_fixed Join = refl
+literal_tells_fixed On = refl
+literal_tells_fixed Show = refl
+literal_tells_fixed Tables = refl
+literal_tells_fixed VersionComment = refl
 literal_tells_fixed Between = refl
 literal_tells_fixed From = refl
 literal_tells_fixed In = refl
@@ -184,6 +193,14 @@ name_head_fixed As = refl
 name_head_fixed Asc = refl
 name_head_fixed Desc = refl
 name_head_fixed Offset = refl
+name_head_fixed Database = refl
+name_head_fixed Databases = refl
+name_head_fixed Inner = refl
+name_head_fixed Join = refl
+name_head_fixed On = refl
+name_head_fixed Show = refl
+name_head_fixed Tables = refl
+name_head_fixed VersionComment = refl
 name_head_fixed Between = refl
 name_head_fixed From = refl
 name_head_fixed In = refl
@@ -241,7 +258,7 @@ name_head (tokens.Signed n) ts = refl
 name_head (tokens.Text t) ts = refl
 name_head tokens.Bad ts = refl
 
-name_tells : Tells (stands name_of) (100 ∷ [])
+pub name_tells : Tells (stands name_of) (100 ∷ [])
 name_tells = record { none = refl; head = name_head }
 
 abbrev comparison_kinds : List ℕ
@@ -253,6 +270,14 @@ comparison_tells_fixed As = refl
 comparison_tells_fixed Asc = refl
 comparison_tells_fixed Desc = refl
 comparison_tells_fixed Offset = refl
+comparison_tells_fixed Database = refl
+comparison_tells_fixed Databases = refl
+comparison_tells_fixed Inner = refl
+comparison_tells_fixed Join = refl
+comparison_tells_fixed On = refl
+comparison_tells_fixed Show = refl
+comparison_tells_fixed Tables = refl
+comparison_tells_fixed VersionComment = refl
 comparison_tells_fixed Between = refl
 comparison_tells_fixed From = refl
 comparison_tells_fixed In = refl
@@ -766,7 +791,7 @@ unfolding insert_at
 insert_field depth =
     behind_fixed Insert
     (both (optional_field Into depth) (λ _. both (table_field depth) (λ t. both (column_list_field depth) (λ c. behind_fixed Values
-    (both (tuples_field depth) (λ r. is_field (statements.Insert (record { table = t; columns = c; rows = r })) depth) refl)) refl) refl) refl)
+    (both (tuples_field depth) (λ r. is_field (statements.Table (table_statements.Insert (record { table = t; columns = c; rows = r }))) depth) refl)) refl) refl) refl)
 
 item_field : (depth : ℕ) → IsField (λ _. item) depth item_at false (100 ∷ []) (1 ∷ 100 ∷ 16 ∷ [])
 unfolding item_at
@@ -842,7 +867,7 @@ some_items_field depth = known_as (100 ∷ aggregate_kinds) (15 ∷ 1 ∷ 100 �
     (either_field (λ _. column_items) column_items_at aggregate_items (aggregate_items_at depth) (stands name_of) depth false (100 ∷ []) (15 ∷ 1 ∷ 100 ∷ 16 ∷ []) aggregate_kinds (15 ∷ 1 ∷ 100 ∷ [])
     (column_items_field depth) (aggregate_items_field depth) name_tells refl)
 
-select_items_field : (depth : ℕ) → IsField select_items depth (select_items_at depth) false (17 ∷ 100 ∷ aggregate_kinds) (15 ∷ 1 ∷ 100 ∷ 16 ∷ [])
+pub select_items_field : (depth : ℕ) → IsField select_items depth (select_items_at depth) false (17 ∷ 100 ∷ aggregate_kinds) (15 ∷ 1 ∷ 100 ∷ 16 ∷ [])
 unfolding select_items_at
 select_items_field depth = known_as (17 ∷ 100 ∷ aggregate_kinds) (15 ∷ 1 ∷ 100 ∷ 16 ∷ []) refl refl
     (fixed_or Star (λ _. is items.All) (λ ts. Ok (items.All, ts)) (λ n. column_items ∣ aggregate_items n)
@@ -851,7 +876,7 @@ select_items_field depth = known_as (17 ∷ 100 ∷ aggregate_kinds) (15 ∷ 1 �
     (some_items_field depth)
     refl)
 
-tab_field : (depth : ℕ) → IsField (λ _. tab) depth tab_at false (100 ∷ []) (1 ∷ 100 ∷ 16 ∷ [])
+pub tab_field : (depth : ℕ) → IsField (λ _. tab) depth tab_at false (100 ∷ []) (1 ∷ 100 ∷ 16 ∷ [])
 unfolding tab_at
 tab_field depth = known_as (100 ∷ []) (1 ∷ 100 ∷ 16 ∷ []) refl refl
     (both (table_field depth) (λ t. both (alias_field depth) (λ a. is_field (record { table = t; alias = a }) depth) refl) refl)
@@ -893,7 +918,7 @@ unfolding sorts_at
 sorts_field depth = known_as (36 ∷ []) order_kinds refl refl
     (fixed_or Order (λ _. By ⊳ series Comma sort) sort_list_at (λ _. is []) (λ ts. Ok ([], ts)) depth false true (25 ∷ []) (15 ∷ 49 ∷ 50 ∷ 16 ∷ []) [] [] (sort_list_field depth) (is_field [] depth) refl)
 
-order_field : (i : SelectItems) (depth : ℕ) → IsField (λ _. order i) depth (order_at i) true (36 ∷ []) order_kinds
+pub order_field : (i : SelectItems) (depth : ℕ) → IsField (λ _. order i) depth (order_at i) true (36 ∷ []) order_kinds
 unfolding order_at
 order_field items.All depth = sorts_field depth
 order_field (items.Columns l) depth = sorts_field depth
@@ -927,7 +952,7 @@ unfolding limits_at
 limits_field depth = known_as (31 ∷ []) limit_kinds refl refl
     (fixed_or Limit (λ _. one count_of ▷ λ n. behind_count n ▷ λ l. is (Some l)) counts_at (λ _. is None) (λ ts. Ok (None, ts)) depth false true (101 ∷ []) (51 ∷ 15 ∷ []) [] [] (counts_field depth) (is_field None depth) refl)
 
-limit_field : (i : SelectItems) (depth : ℕ) → IsField (λ _. limit i) depth (limit_at i) true (31 ∷ []) limit_kinds
+pub limit_field : (i : SelectItems) (depth : ℕ) → IsField (λ _. limit i) depth (limit_at i) true (31 ∷ []) limit_kinds
 unfolding limit_at
 limit_field items.All depth = limits_field depth
 limit_field (items.Columns l) depth = limits_field depth
@@ -945,27 +970,15 @@ pub lock_field : (depth : ℕ) → IsField (λ _. lock) depth lock_at false (32 
 unfolding lock_at
 lock_field depth = fixed_or Lock (λ _. In ⊳ (Share ⊳ (Mode ⊳ is locks.Shared))) share_at (λ _. For ⊳ (Update ⊳ is locks.Exclusive)) for_update_at depth false false (4 ∷ []) [] (30 ∷ []) [] (share_field depth) (for_update_field depth) refl
 
-locked_field : (depth : ℕ) → IsField (λ _. locked) depth locked_at true (32 ∷ 30 ∷ []) (32 ∷ 30 ∷ [])
+pub locked_field : (depth : ℕ) → IsField (λ _. locked) depth locked_at true (32 ∷ 30 ∷ []) (32 ∷ 30 ∷ [])
 unfolding locked_at
 locked_field depth = known_as (32 ∷ 30 ∷ []) (32 ∷ 30 ∷ []) refl refl
     (either_field (λ _. lock ▷ λ m. is (Some m)) (λ ts. lock_at ts >>= λ m. Ok (Some m.0, m.1)) (λ _. is None) (λ ts. Ok (None, ts)) (λ ts. begins Lock ts || begins For ts) depth true (32 ∷ 30 ∷ []) [] [] []
     (known_as (32 ∷ 30 ∷ []) [] refl refl (both (lock_field depth) (λ m. is_field (Some m) depth) refl))
     (is_field None depth) (either_tells Lock For) refl)
 
--- the kinds with which a SELECT goes on
-abbrev pub select_kinds : List ℕ
-select_kinds = 32 ∷ 30 ∷ 31 ∷ 51 ∷ 36 ∷ 15 ∷ 49 ∷ 50 ∷ 12 ∷ 9 ∷ 0 ∷ 1 ∷ 100 ∷ 16 ∷ []
-
-pub select_field : (depth : ℕ) → IsField select depth (select_at depth) false (10 ∷ []) select_kinds
-unfolding select_at
-select_field depth = known_as (10 ∷ []) select_kinds refl refl
-    (behind_fixed Select
-    (both (select_items_field depth) (λ i. behind_fixed From
-    (both (tab_field depth) (λ t. both (where_field depth) (λ c. both (order_field i depth) (λ o. both (limit_field i depth) (λ l. both (locked_field depth) (λ m.
-    is_field (statements.Select (record { items = i; tab = t; cond = c; order = o; limit = l; lock = m })) depth) refl) refl) refl) refl) refl)) refl))
-
 pub delete_field : (depth : ℕ) → IsField delete depth (delete_at depth) false (28 ∷ []) (12 ∷ 9 ∷ 0 ∷ 16 ∷ [])
 unfolding delete_at
 delete_field depth = known_as (28 ∷ []) (12 ∷ 9 ∷ 0 ∷ 16 ∷ []) refl refl
     (behind_fixed Delete (behind_fixed From
-    (both (table_field depth) (λ t. both (where_field depth) (λ c. is_field (statements.Delete (record { table = t; cond = c })) depth) refl) refl)))
+    (both (table_field depth) (λ t. both (where_field depth) (λ c. is_field (statements.Table (table_statements.Delete (record { table = t; cond = c }))) depth) refl) refl)))

@@ -1,23 +1,26 @@
 -- What is printed of a statement has tokens that spell it.
-use Rattle.std.proofs.Common.{◌≡◌, ℕ, map, List, [], ◌∷◌, ◌++◌, true, false, Some, None, refl, sym, ap, subst, ◌∙◌, append_assoc, inl, inr, codes}
+use Rattle.std.proofs.Common.{◌≡◌, ℕ, zero, suc, map, List, [], ◌∷◌, ◌++◌, true, false, Some, None, refl, sym, ap, subst, ◌∙◌, append_assoc, inl, inr, codes}
 use Rattle.std.specs.List.{flat_map}
 use Rattle.sql_values.specs.declared.places.LockMode.TheVariants as locks
 use Rattle.sql_text.specs.declared.statement.Statement.{Statement}
 use Rattle.sql_text.specs.declared.statement.Statement.TheVariants as statements
+use Rattle.sql_text.specs.declared.statement.TableStatement.TheVariants as table_statements
+use Rattle.sql_text.specs.declared.statement.Admin.{Admin}
+use Rattle.sql_text.specs.declared.statement.Admin.TheVariants as admins
 use Rattle.sql_text.specs.declared.statement.SelectItems.TheVariants as items
 use Rattle.sql_text.specs.declared.statement.Item.{Item}
 use Rattle.sql_text.specs.declared.statement.Tab.{Tab}
 use Rattle.sql_text.specs.declared.statement.Assignment.{Assignment}
-use Rattle.sql_text.specs.declared.token.Fixed.TheVariants.{Delete, For, From, In, Insert, Into, Lock, Mode, Select, Set, Share, Update, Values, Where, Open, Close, Comma, Star, Semicolon, Equal}
+use Rattle.sql_text.specs.declared.token.Fixed.TheVariants.{Database, Databases, Delete, For, From, In, Insert, Into, Lock, Mode, Select, Set, Share, Show, Tables, Update, Values, VersionComment, Where, Open, Close, Comma, Star, Semicolon, Equal}
 use Rattle.sql_text.specs.declared.token.Token.{Token}
 use Rattle.sql_text.specs.declared.token.Token.TheVariants as tokens
 use Rattle.sql_text.specs.Rules.{is, ◌▷◌, series, at_most_further, parenthesized, optional}
-use Rattle.sql_text.specs.Grammar.{name, literal, alias, cond as cond_rule, expr, tuple, column_list, insert, item, aggregate_item, select_items, where_cond, lock, locked, select, assignment, update, delete, body, statement}
+use Rattle.sql_text.specs.Grammar.{name, literal, alias, comment_limit, of_server, shown, show, cond as cond_rule, expr, tuple, column_list, insert, item, aggregate_item, select_items, where_cond, lock, locked, select, assignment, update, delete, body, statement}
 use Rattle.sql_text.specs.Printing.{literal_text, name_text, joined_text, column_text, literals_text, cond_text, alias_text, item_text, aggregate_item_text, items_text, where_text, columns_text, tuple_text, expr_text, order_text, limit_text, lock_text, locked_text, assignment_text, printed}
 use Rattle.sql_text.proofs.Written.{Atom, Suffix, prefix_of, nothing_behind, atom_suffix, prefix_atom, separator_atom, suffix_suffix, separator_alone}
 use Rattle.sql_text.proofs.Lexemes as lexemes
 use Rattle.sql_text.proofs.Sound.{Sounds}
-use Rattle.sql_text.proofs.Told.{Respells, first_sound, second_sound, mapped, unmapped, retold}
+use Rattle.sql_text.proofs.Told.{Told, Respells, first_sound, second_sound, mapped, unmapped, retold}
 use Rattle.sql_text.proofs.Respelled.{alias_told, column_told, enclosed_told, few_told, literal_told, name_told, series_told, table_told}
 use Rattle.sql_text.proofs.RespelledConds.{cond_told}
 use Rattle.sql_text.proofs.RespelledExprs.{expr_told}
@@ -58,11 +61,11 @@ module _ (change : Token → Token) (fixes : lexemes.Fixes change) where
       let after_table : Sounds t.1.rest = second_sound t.1 after_into in
       let v = c.1.second in
       let after_columns : Sounds v.0 = (let k : Sounds (tokens.Fixed Values ∷ v.0) = subst Sounds v.1 (second_sound c.1 after_table) in k.1) in
-      let u = unmapped (series Comma (tuple depth)) (λ r. statements.Insert (record { table = t.0; columns = c.0; rows = r })) x v.0 v.2 in
+      let u = unmapped (series Comma (tuple depth)) (λ r. statements.Table (table_statements.Insert (record { table = t.0; columns = c.0; rows = r }))) x v.0 v.2 in
       let a = (table_told change fixes) t.0 t.1.front t.1.first (first_sound t.1 after_into) in
       let b = columns_told depth c.0 c.1.front c.1.first (first_sound c.1 after_table) in
       let r = (series_told change fixes) Comma (tuple depth) tuple_text (codes ",") (lexemes.comma_symbol change fixes) (tuple_told depth) u.0 v.0 u.2 after_columns in
-      let value : Statement = statements.Insert (record { table = t.0; columns = c.0; rows = u.0 }) in
+      let value : Statement = statements.Table (table_statements.Insert (record { table = t.0; columns = c.0; rows = u.0 })) in
       let behind : List ℕ = codes " VALUES " ++ joined_text (codes ",") (map tuple_text u.0) in
       retold (Atom change) (insert depth) printed x value u.1 (
         tokens.Fixed Insert ∷ (tokens.Fixed Into ∷ (a.0 ++ (b.0 ++ (tokens.Fixed Values ∷ r.0)))),
@@ -90,7 +93,7 @@ module _ (change : Token → Token) (fixes : lexemes.Fixes change) where
                       rest = tokens.Fixed Values ∷ r.0;
                       whole = refl;
                       first = b.1;
-                      second = (r.0, refl, mapped (series Comma (tuple depth)) (λ l. is (statements.Insert (record { table = t.0; columns = c.0; rows = l }))) u.0 value r.0 r.1 (refl, refl));
+                      second = (r.0, refl, mapped (series Comma (tuple depth)) (λ l. is (statements.Table (table_statements.Insert (record { table = t.0; columns = c.0; rows = l })))) u.0 value r.0 r.1 (refl, refl));
                     },
                   );
                 },
@@ -169,9 +172,54 @@ module _ (change : Token → Token) (fixes : lexemes.Fixes change) where
       retold (Suffix change) locked locked_text m (Some u.0) u.1 (a.0, inl (mapped lock (λ k. is (Some k)) u.0 (Some u.0) a.0 a.1 (refl, refl)), a.2)
   locked_told m ts (inr h) sound = retold (Suffix change) locked locked_text m None h.0 ([], inr (refl, refl), (nothing_behind change))
 
+  -- ---- SELECT
+
+  version_told : (depth : ℕ) → Told (Atom change) (select depth) (statements.Admin admins.VersionComment) (printed (statements.Admin admins.VersionComment))
+  unfolding printed
+  version_told depth = (
+    tokens.Fixed Select ∷ tokens.Fixed VersionComment ∷ [],
+    (
+      tokens.Fixed VersionComment ∷ [],
+      refl,
+      inl (mapped (of_server depth) (λ a. is (statements.Admin a)) admins.VersionComment (statements.Admin admins.VersionComment) (tokens.Fixed VersionComment ∷ []) (inl ([], refl, inr (refl, refl))) (refl, refl)),
+    ),
+    lexemes.version_comment change fixes,
+  )
+
+  -- its parentheses are an opening
+  database_told : (depth : ℕ) → Told (Atom change) (select (suc depth)) (statements.Admin admins.Database) (printed (statements.Admin admins.Database))
+  unfolding printed
+  database_told depth =
+      let call : List Token = tokens.Fixed Database ∷ tokens.Fixed Open ∷ tokens.Fixed Close ∷ [] in
+      let enclosed : parenthesized (is admins.Database) (suc depth) admins.Database (tokens.Fixed Open ∷ tokens.Fixed Close ∷ []) =
+      (tokens.Fixed Close ∷ [], refl, (admins.Database, record { front = []; rest = tokens.Fixed Close ∷ []; whole = refl; first = (refl, refl); second = ([], refl, (refl, refl)) })) in (
+        tokens.Fixed Select ∷ call,
+        (
+          call,
+          refl,
+          inl (mapped (of_server (suc depth)) (λ a. is (statements.Admin a)) admins.Database (statements.Admin admins.Database) call (inr (tokens.Fixed Open ∷ tokens.Fixed Close ∷ [], refl, enclosed)) (refl, refl)),
+        ),
+        lexemes.database_call change fixes,
+      )
+
+  comment_is : (a : Admin) (ts : List Token) → comment_limit a ts → a ≡ admins.VersionComment
+  comment_is a ts (inl (rest, e, (n, s))) = s.second.0
+  comment_is a ts (inr h) = h.0
+
+  admin_told : (depth : ℕ) (x : Statement) (a : Admin) (ts : List Token) → x ≡ statements.Admin a → of_server depth a ts → Told (Atom change) (select depth) x (printed x)
+  admin_told depth x a ts e (inl (rest, f, h)) =
+      retold (Atom change) (select depth) printed x (statements.Admin admins.VersionComment) (e ∙ ap statements.Admin (comment_is a rest h)) (version_told depth)
+  admin_told zero x a ts e (inr (rest, f, h)) = absurd h
+  admin_told (suc depth) x a ts e (inr (rest, f, (more, g, (y, s)))) =
+      let named : a ≡ admins.Database = s.second.2.0 ∙ s.first.0 in
+      retold (Atom change) (select (suc depth)) printed x (statements.Admin admins.Database) (e ∙ ap statements.Admin named) (database_told depth)
+
   pub select_told : (depth : ℕ) → Respells (Atom change) (select depth) printed
   unfolding printed
-  select_told depth x ts (rest, e, (i, s)) sound =
+  select_told depth x ts (rest, e, inl h) sound =
+      let u = unmapped (of_server depth) statements.Admin x rest h in
+      admin_told depth x u.0 rest u.1 u.2
+  select_told depth x ts (rest, e, inr (i, s)) sound =
       let inside : Sounds rest = (let k : Sounds (tokens.Fixed Select ∷ rest) = subst Sounds e sound in k.1) in
       let f = s.second in
       let after_from : Sounds f.0 = (let k : Sounds (tokens.Fixed From ∷ f.0) = subst Sounds f.1 (second_sound s inside) in k.1) in
@@ -182,7 +230,7 @@ module _ (change : Token → Token) (fixes : lexemes.Fixes change) where
       let after_where : Sounds w.1.rest = second_sound w.1 after_tab in
       let l = o.1.second in
       let after_order : Sounds o.1.rest = second_sound o.1 after_where in
-      let u = unmapped locked (λ m. statements.Select (record { items = i; tab = t.0; cond = w.0; order = o.0; limit = l.0; lock = m })) x l.1.rest l.1.second in
+      let u = unmapped locked (λ m. statements.Table (table_statements.Select (record { items = i; tab = t.0; cond = w.0; order = o.0; limit = l.0; lock = m }))) x l.1.rest l.1.second in
       let n = t.1.first in
       let k = unmapped alias (λ a. record { table = n.0; alias = a }) t.0 n.1.rest n.1.second in
       let in_tab : Sounds t.1.front = first_sound t.1 after_from in
@@ -194,8 +242,8 @@ module _ (change : Token → Token) (fixes : lexemes.Fixes change) where
       let q = (limit_told change fixes) i l.0 l.1.front l.1.first (first_sound l.1 after_order) in
       let m = locked_told u.0 l.1.rest u.2 (second_sound l.1 after_order) in
       let from : Tab = record { table = n.0; alias = k.0 } in
-      let value : Statement = statements.Select (record { items = i; tab = from; cond = w.0; order = o.0; limit = l.0; lock = u.0 }) in
-      let same : x ≡ value = u.1 ∙ ap (λ (v : Tab). statements.Select (record { items = i; tab = v; cond = w.0; order = o.0; limit = l.0; lock = u.0 })) k.1 in
+      let value : Statement = statements.Table (table_statements.Select (record { items = i; tab = from; cond = w.0; order = o.0; limit = l.0; lock = u.0 })) in
+      let same : x ≡ value = u.1 ∙ ap (λ (v : Tab). statements.Table (table_statements.Select (record { items = i; tab = v; cond = w.0; order = o.0; limit = l.0; lock = u.0 }))) k.1 in
       let source : List Token = b.0 ++ c.0 in
       let last : List Token = p.0 ++ (q.0 ++ m.0) in
       let end : List Token = d.0 ++ last in
@@ -206,7 +254,7 @@ module _ (change : Token → Token) (fixes : lexemes.Fixes change) where
         (
           a.0 ++ (tokens.Fixed From ∷ (source ++ end)),
           refl,
-          (
+          inr (
             i,
             record {
               front = a.0;
@@ -244,7 +292,7 @@ module _ (change : Token → Token) (fixes : lexemes.Fixes change) where
                                 rest = m.0;
                                 whole = refl;
                                 first = q.1;
-                                second = mapped locked (λ v. is (statements.Select (record { items = i; tab = from; cond = w.0; order = o.0; limit = l.0; lock = v }))) u.0 value m.0 m.1 (refl, refl);
+                                second = mapped locked (λ v. is (statements.Table (table_statements.Select (record { items = i; tab = from; cond = w.0; order = o.0; limit = l.0; lock = v })))) u.0 value m.0 m.1 (refl, refl);
                               },
                             );
                           },
@@ -268,6 +316,23 @@ module _ (change : Token → Token) (fixes : lexemes.Fixes change) where
             ((suffix_suffix change) (limit_text l.0) (locked_text u.0) q.0 m.0 q.2 m.2)))))))),
       )
 
+  pub show_told : Respells (Atom change) show printed
+  unfolding printed
+  show_told x ts (rest, e, h) sound =
+      let u = unmapped shown statements.Admin x rest h in
+      elim u.2 [
+        | inl k ↦ retold (Atom change) show printed x (statements.Admin admins.ShowTables) (u.1 ∙ ap statements.Admin k.2.0) (
+          tokens.Fixed Show ∷ tokens.Fixed Tables ∷ [],
+          (tokens.Fixed Tables ∷ [], refl, mapped shown (λ a. is (statements.Admin a)) admins.ShowTables (statements.Admin admins.ShowTables) (tokens.Fixed Tables ∷ []) (inl ([], refl, (refl, refl))) (refl, refl)),
+          lexemes.show_tables change fixes,
+        )
+        | inr k ↦ retold (Atom change) show printed x (statements.Admin admins.ShowDatabases) (u.1 ∙ ap statements.Admin k.2.0) (
+          tokens.Fixed Show ∷ tokens.Fixed Databases ∷ [],
+          (tokens.Fixed Databases ∷ [], refl, mapped shown (λ a. is (statements.Admin a)) admins.ShowDatabases (statements.Admin admins.ShowDatabases) (tokens.Fixed Databases ∷ []) (inr ([], refl, (refl, refl))) (refl, refl)),
+          lexemes.show_databases change fixes,
+        )
+      ]
+
   assignment_told : (depth : ℕ) → Respells (Atom change) (assignment depth) assignment_text
   assignment_told depth x ts (n, s) sound =
       let f = s.second in
@@ -290,11 +355,11 @@ module _ (change : Token → Token) (fixes : lexemes.Fixes change) where
       let f = s.second in
       let after_set : Sounds f.0 = (let k : Sounds (tokens.Fixed Set ∷ f.0) = subst Sounds f.1 (second_sound s inside) in k.1) in
       let l = f.2 in
-      let u = unmapped (where_cond depth) (λ c. statements.Update (record { table = t; sets = l.0; cond = c })) x l.1.rest l.1.second in
+      let u = unmapped (where_cond depth) (λ c. statements.Table (table_statements.Update (record { table = t; sets = l.0; cond = c }))) x l.1.rest l.1.second in
       let a = (table_told change fixes) t s.front s.first (first_sound s inside) in
       let b = (series_told change fixes) Comma (assignment depth) assignment_text (codes ", ") (lexemes.spaced_comma change fixes) (assignment_told depth) l.0 l.1.front l.1.first (first_sound l.1 after_set) in
       let c = where_told depth u.0 l.1.rest u.2 (second_sound l.1 after_set) in
-      let value : Statement = statements.Update (record { table = t; sets = l.0; cond = u.0 }) in
+      let value : Statement = statements.Table (table_statements.Update (record { table = t; sets = l.0; cond = u.0 })) in
       let sets : List ℕ = joined_text (codes ", ") (map assignment_text l.0) in
       retold (Atom change) (update depth) printed x value u.1 (
         tokens.Fixed Update ∷ (a.0 ++ (tokens.Fixed Set ∷ (b.0 ++ c.0))),
@@ -318,7 +383,7 @@ module _ (change : Token → Token) (fixes : lexemes.Fixes change) where
                     rest = c.0;
                     whole = refl;
                     first = b.1;
-                    second = mapped (where_cond depth) (λ v. is (statements.Update (record { table = t; sets = l.0; cond = v }))) u.0 value c.0 c.1 (refl, refl);
+                    second = mapped (where_cond depth) (λ v. is (statements.Table (table_statements.Update (record { table = t; sets = l.0; cond = v })))) u.0 value c.0 c.1 (refl, refl);
                   },
                 ),
               );
@@ -336,10 +401,10 @@ module _ (change : Token → Token) (fixes : lexemes.Fixes change) where
   delete_told depth x ts (rest, e, (more, f, (t, s))) sound =
       let outer : Sounds rest = (let k : Sounds (tokens.Fixed Delete ∷ rest) = subst Sounds e sound in k.1) in
       let inner : Sounds more = (let k : Sounds (tokens.Fixed From ∷ more) = subst Sounds f outer in k.1) in
-      let u = unmapped (where_cond depth) (λ c. statements.Delete (record { table = t; cond = c })) x s.rest s.second in
+      let u = unmapped (where_cond depth) (λ c. statements.Table (table_statements.Delete (record { table = t; cond = c }))) x s.rest s.second in
       let a = (table_told change fixes) t s.front s.first (first_sound s inner) in
       let b = where_told depth u.0 s.rest u.2 (second_sound s inner) in
-      let value : Statement = statements.Delete (record { table = t; cond = u.0 }) in
+      let value : Statement = statements.Table (table_statements.Delete (record { table = t; cond = u.0 })) in
       retold (Atom change) (delete depth) printed x value u.1 (
         tokens.Fixed Delete ∷ tokens.Fixed From ∷ (a.0 ++ b.0),
         (
@@ -348,7 +413,7 @@ module _ (change : Token → Token) (fixes : lexemes.Fixes change) where
           (
             a.0 ++ b.0,
             refl,
-            (t, record { front = a.0; rest = b.0; whole = refl; first = a.1; second = mapped (where_cond depth) (λ v. is (statements.Delete (record { table = t; cond = v }))) u.0 value b.0 b.1 (refl, refl) }),
+            (t, record { front = a.0; rest = b.0; whole = refl; first = a.1; second = mapped (where_cond depth) (λ v. is (statements.Table (table_statements.Delete (record { table = t; cond = v })))) u.0 value b.0 b.1 (refl, refl) }),
           ),
         ),
         (prefix_atom change) (codes "DELETE FROM ") (name_text t ++ where_text u.0) (tokens.Fixed Delete ∷ tokens.Fixed From ∷ []) (a.0 ++ b.0) (lexemes.delete_prefix change fixes)
@@ -358,8 +423,9 @@ module _ (change : Token → Token) (fixes : lexemes.Fixes change) where
   body_told : (depth : ℕ) → Respells (Atom change) (body depth) printed
   body_told depth s ts (inl h) sound = let a = insert_told depth s ts h sound in (a.0, inl a.1, a.2)
   body_told depth s ts (inr (inl h)) sound = let a = select_told depth s ts h sound in (a.0, inr (inl a.1), a.2)
-  body_told depth s ts (inr (inr (inl h))) sound = let a = update_told depth s ts h sound in (a.0, inr (inr (inl a.1)), a.2)
-  body_told depth s ts (inr (inr (inr h))) sound = let a = delete_told depth s ts h sound in (a.0, inr (inr (inr a.1)), a.2)
+  body_told depth s ts (inr (inr (inl h))) sound = let a = show_told s ts h sound in (a.0, inr (inr (inl a.1)), a.2)
+  body_told depth s ts (inr (inr (inr (inl h)))) sound = let a = update_told depth s ts h sound in (a.0, inr (inr (inr (inl a.1))), a.2)
+  body_told depth s ts (inr (inr (inr (inr h)))) sound = let a = delete_told depth s ts h sound in (a.0, inr (inr (inr (inr a.1))), a.2)
 
   pub statement_told : (depth : ℕ) → Respells (Atom change) (statement depth) printed
   statement_told depth x ts (s, q) sound =

@@ -1,5 +1,5 @@
 -- The tokens of a text have values that have a text: names are names, numbers fit, texts are UTF-8.
-use Rattle.std.proofs.Common.{◌≡◌, ℕ, ℤ, pos, negsuc, neg_ℤ, zero, suc, ◌+◌, ◌<◌, ◌≤◌, ◌^◌, map, List, [], ◌∷◌, ◌++◌, length, take, drop, slice_index, length-drop, get_or, Bool, true, false, cond, Option, Some, None, refl, sym, ap, subst, ◌∙◌, append-nil, arith, inl, inr}
+use Rattle.std.proofs.Common.{◌≡◌, ℕ, ℤ, pos, negsuc, neg_ℤ, zero, suc, ◌+◌, ◌<◌, ◌≤◌, ◌^◌, map, List, [], ◌∷◌, ◌++◌, length, take, drop, slice_index, length-drop, get_or, Bool, true, false, cond, Option, Some, None, refl, sym, ap, subst, ◌∙◌, append-nil, arith, inl, inr, codes}
 use Rattle.std.specs.Prelude.{◌==◌, ◌&&◌, ◌||◌, not, nat_lt, nat_le}
 use Rattle.std.specs.Int.{is_in_range}
 use Rattle.std.specs.Option.{unwrap_or}
@@ -15,11 +15,11 @@ use Rattle.std.proofs.lemmas.Str.{IsUtf8-append, IsUtf8-nil, IsUtf8-encode, IsUt
 use lib.Utf8.{scalar, scalars, encode, encodes}
 use Rattle.sql_values.specs.Names.{is_name, begins_name, continues_name}
 use Rattle.sql_text.specs.declared.token.Fixed.{Fixed}
-use Rattle.sql_text.specs.declared.token.Fixed.TheVariants.{Open, Close, Comma, Dot, Star, Semicolon, Equal, NotEqual, Less, AtMost, Greater, AtLeast}
+use Rattle.sql_text.specs.declared.token.Fixed.TheVariants.{VersionComment, Open, Close, Comma, Dot, Star, Semicolon, Equal, NotEqual, Less, AtMost, Greater, AtLeast}
 use Rattle.sql_text.specs.declared.token.Before.{Before}
 use Rattle.sql_text.specs.declared.token.Token.{Token}
 use Rattle.sql_text.specs.declared.token.Token.TheVariants as tokens
-use Rattle.sql_text.specs.Tokens.{run, value_after, word_token, keyword_of, word_at, digits_token, signed_token, sign_token, digits_at, signed_at, Plain, text_from, text_at, up_to, quoted_at, starts, rest_of, symbol_at, is_blank, comment_at, skipped, seen, other_at, lexeme_at, Placed, Step, placed, step_at, onward, tokens_within, at_start, placed_tokens, tokens_of}
+use Rattle.sql_text.specs.Tokens.{run, value_after, word_token, keyword_of, word_at, digits_token, signed_token, sign_token, digits_at, signed_at, Plain, text_from, text_at, up_to, quoted_at, variable_token, variable_at, is_word, begins_word, starts, rest_of, symbol_at, is_blank, comment_at, skipped, seen, other_at, lexeme_at, Placed, Step, placed, step_at, onward, tokens_within, at_start, placed_tokens, tokens_of}
 use Rattle.sql_text.specs.Printing.{escaped}
 use Rattle.sql_text.proofs.Lexemes.{is_plain, plain_utf8}
 
@@ -195,6 +195,15 @@ quoted_sound : (o : Option (List ℕ × List ℕ)) → Sound (quoted_at o).0
 quoted_sound None = tt
 quoted_sound (Some r) = name_sound (is_name r.0) r.0 refl
 
+variable_token_sound : (bytes : List ℕ) → Sound (variable_token bytes)
+variable_token_sound bytes = either (λ (t : Token). Sound t) (is_word (codes "VERSION_COMMENT") bytes) (tokens.Fixed VersionComment) tokens.Bad tt tt
+
+variable_sound : (bytes : List ℕ) → Sound (variable_at bytes).0
+variable_sound [] = tt
+variable_sound (b ∷ bytes) =
+    let named = run continues_name bytes in
+    either (λ (r : Token × List ℕ). Sound r.0) (b == 64) (variable_token named.0, named.1) (tokens.Bad, b ∷ bytes) (variable_token_sound named.0) tt
+
 text_sound : (o : Option (List ℕ × List ℕ)) → Sound (text_at o).0
 text_sound None = tt
 text_sound (Some r) = lossy_utf8 (length r.0) r.0 (omega arith)
@@ -251,10 +260,11 @@ symbol_sound b bytes =
 other_sound : (operand : Bool) (b : ℕ) (bytes : List ℕ) → Sound (other_at operand b bytes).0
 other_sound operand b bytes =
     let P : Token × List ℕ → Type 0 = λ r. Sound r.0 in
-    either P (b == 43) (signed_at operand false bytes) (cond (b == 45) (signed_at operand true bytes) (cond (b == 39 || b == 34) (text_at (text_from b Plain bytes)) (cond (b == 96) (quoted_at (up_to 96 bytes)) (symbol_at b bytes)))) (signed_sound operand false bytes)
-    (either P (b == 45) (signed_at operand true bytes) (cond (b == 39 || b == 34) (text_at (text_from b Plain bytes)) (cond (b == 96) (quoted_at (up_to 96 bytes)) (symbol_at b bytes))) (signed_sound operand true bytes)
-    (either P (b == 39 || b == 34) (text_at (text_from b Plain bytes)) (cond (b == 96) (quoted_at (up_to 96 bytes)) (symbol_at b bytes)) (text_sound (text_from b Plain bytes))
-    (either P (b == 96) (quoted_at (up_to 96 bytes)) (symbol_at b bytes) (quoted_sound (up_to 96 bytes)) (symbol_sound b bytes))))
+    either P (b == 43) (signed_at operand false bytes) (cond (b == 45) (signed_at operand true bytes) (cond (b == 39 || b == 34) (text_at (text_from b Plain bytes)) (cond (b == 96) (quoted_at (up_to 96 bytes)) (cond (b == 64) (variable_at bytes) (symbol_at b bytes))))) (signed_sound operand false bytes)
+    (either P (b == 45) (signed_at operand true bytes) (cond (b == 39 || b == 34) (text_at (text_from b Plain bytes)) (cond (b == 96) (quoted_at (up_to 96 bytes)) (cond (b == 64) (variable_at bytes) (symbol_at b bytes)))) (signed_sound operand true bytes)
+    (either P (b == 39 || b == 34) (text_at (text_from b Plain bytes)) (cond (b == 96) (quoted_at (up_to 96 bytes)) (cond (b == 64) (variable_at bytes) (symbol_at b bytes))) (text_sound (text_from b Plain bytes))
+    (either P (b == 96) (quoted_at (up_to 96 bytes)) (cond (b == 64) (variable_at bytes) (symbol_at b bytes)) (quoted_sound (up_to 96 bytes))
+    (either P (b == 64) (variable_at bytes) (symbol_at b bytes) (variable_sound bytes) (symbol_sound b bytes)))))
 
 skipped_sound : (o : Option (List ℕ)) → Found (skipped o).0
 skipped_sound None = tt
@@ -281,9 +291,9 @@ placed_sound left before (Some t) rest h = (h, tt)
 step_sound : (before : Before) (bytes : List ℕ) → Sounds (values (step_at before bytes).0)
 step_sound before [] = tt
 step_sound before (b ∷ bytes) =
-    let next : Before = record { touching = continues_name b; operand = before.operand } in
+    let next : Before = record { touching = begins_word b; operand = before.operand } in
     let found : Option Token × List ℕ = lexeme_at before.operand (b ∷ bytes) in
-    either (λ (s : Step). Sounds (values s.0)) (before.touching && continues_name b) ((tokens.Bad, length (b ∷ bytes)) ∷ [], None) (placed (length (b ∷ bytes)) next found) (tt, tt)
+    either (λ (s : Step). Sounds (values s.0)) (before.touching && begins_word b) ((tokens.Bad, length (b ∷ bytes)) ∷ [], None) (placed (length (b ∷ bytes)) next found) (tt, tt)
     (placed_sound (length (b ∷ bytes)) next found.0 found.1 (lexeme_sound before.operand (b ∷ bytes)))
 
 onward_sound : (again : Before → List ℕ → List Placed) (s : Step) → Sounds (values s.0) → ((before : Before) (bytes : List ℕ) → Sounds (values (again before bytes))) → Sounds (values (onward again s))

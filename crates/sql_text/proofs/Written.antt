@@ -7,7 +7,7 @@ use Rattle.std.proofs.lemmas.Str.{IsUtf8-append, IsUtf8-nil}
 use Rattle.sql_values.specs.Names.{continues_name}
 use Rattle.sql_text.specs.declared.token.Before.{Before}
 use Rattle.sql_text.specs.declared.token.Token.{Token}
-use Rattle.sql_text.specs.Tokens.{Placed, Step, step_at, onward, tokens_within, at_start, lexeme_at, is_bad, ends_operand}
+use Rattle.sql_text.specs.Tokens.{Placed, Step, begins_word, step_at, onward, tokens_within, at_start, lexeme_at, is_bad, ends_operand}
 
 and_false : (b c : Bool) → c ≡ false → (b && c) ≡ false
 and_false true c h = h
@@ -24,7 +24,7 @@ apart_from operand = record { touching = false; operand = operand }
 
 -- behind a token that begins with this byte
 abbrev pub behind_token : ℕ → Bool → Before
-behind_token b operand = record { touching = continues_name b; operand = operand }
+behind_token b operand = record { touching = begins_word b; operand = operand }
 
 -- Tokens are changed in one way, as words are where more of them are keywords.
 module _ (change : Token → Token) where
@@ -47,7 +47,7 @@ module _ (change : Token → Token) where
       ∙ ap (λ (l : List Token). map (λ (p : Placed). change p.0) found ++ l) (h n (omega arith))
 
   -- a token stands at the front, and no word or digits stand directly before it, or it begins neither
-  pub has_token : (before : Before) (b : ℕ) (bytes : List ℕ) (t u : Token) (operand : Bool) (rest : List ℕ) (ts : List Token) → change t ≡ u → (before.touching && continues_name b) ≡ false
+  pub has_token : (before : Before) (b : ℕ) (bytes : List ℕ) (t u : Token) (operand : Bool) (rest : List ℕ) (ts : List Token) → change t ≡ u → (before.touching && begins_word b) ≡ false
       → lexeme_at before.operand (b ∷ bytes) ≡ (Some t, rest) → is_bad t ≡ false → ends_operand t ≡ operand → length rest ≤ length bytes → Has (behind_token b operand) rest ts → Has before (b ∷ bytes) (u ∷ ts)
   has_token before b bytes t u operand rest ts is away e good ends l h =
       subst (λ v. Has before (b ∷ bytes) (v ∷ ts)) is
@@ -56,10 +56,10 @@ module _ (change : Token → Token) where
       l h)
 
   -- a token that begins neither a word nor digits
-  pub has_symbol : (before : Before) (b : ℕ) (bytes : List ℕ) (t u : Token) (operand : Bool) (rest : List ℕ) (ts : List Token) → change t ≡ u → continues_name b ≡ false
+  pub has_symbol : (before : Before) (b : ℕ) (bytes : List ℕ) (t u : Token) (operand : Bool) (rest : List ℕ) (ts : List Token) → change t ≡ u → begins_word b ≡ false
       → lexeme_at before.operand (b ∷ bytes) ≡ (Some t, rest) → is_bad t ≡ false → ends_operand t ≡ operand → length rest ≤ length bytes → Has (apart_from operand) rest ts → Has before (b ∷ bytes) (u ∷ ts)
   has_symbol before b bytes t u operand rest ts is other e good ends l h =
-      has_token before b bytes t u operand rest ts is (and_false before.touching (continues_name b) other) e good ends l
+      has_token before b bytes t u operand rest ts is (and_false before.touching (begins_word b) other) e good ends l
       (subst (λ v. Has (record { touching = v; operand = operand }) rest ts) (sym other) h)
 
   pub has_blank : (before : Before) (bytes : List ℕ) (ts : List Token) → Has (apart_from before.operand) bytes ts → Has before (32 ∷ bytes) ts

@@ -1,5 +1,5 @@
 -- The grammar of statements, rule by rule.
-use Rattle.std.specs.Prelude.{if◌then◌else◌, ℕ, ℤ, pos, negsuc, zero, suc, ◌^◌, Bool, true, false, List, [], ◌∷◌, Option, Some, None, codes}
+use Rattle.std.specs.Prelude.{if◌then◌else◌, ◌==◌, ℕ, ℤ, pos, negsuc, zero, suc, ◌^◌, Bool, true, false, List, [], ◌∷◌, Option, Some, None, codes}
 use Rattle.std.specs.Prelude.{nat_eq, nat_lt}
 use Rattle.std.specs.Cmp.Lexicographic.{pointwise}
 use Rattle.sql_values.specs.declared.literal.Literal.{Literal}
@@ -18,6 +18,7 @@ use Rattle.sql_values.specs.declared.places.LockMode.{LockMode}
 use Rattle.sql_values.specs.declared.places.LockMode.TheVariants as locks
 use Rattle.sql_text.specs.declared.statement.Statement.{Statement}
 use Rattle.sql_text.specs.declared.statement.Statement.TheVariants as statements
+use Rattle.sql_text.specs.declared.statement.TableStatement.TheVariants as table_statements
 use Rattle.sql_text.specs.declared.statement.SelectItems.{SelectItems}
 use Rattle.sql_text.specs.declared.statement.SelectItems.TheVariants as items
 use Rattle.sql_text.specs.declared.statement.Item.{Item}
@@ -25,10 +26,12 @@ use Rattle.sql_text.specs.declared.statement.AggregateItem.{AggregateItem}
 use Rattle.sql_text.specs.declared.statement.SortItem.{SortItem}
 use Rattle.sql_text.specs.declared.statement.Limit.{Limit as RowLimit}
 use Rattle.sql_text.specs.declared.statement.Tab.{Tab}
+use Rattle.sql_text.specs.declared.statement.Admin.{Admin}
+use Rattle.sql_text.specs.declared.statement.Admin.TheVariants as admins
 use Rattle.sql_text.specs.declared.statement.Assignment.{Assignment}
 use Rattle.sql_text.specs.declared.link.AggregateCall.{AggregateCall}
 use Rattle.sql_text.specs.declared.link.AggregateCall.TheVariants as calls
-use Rattle.sql_text.specs.declared.token.Fixed.TheVariants.{And, As, Asc, Between, By, Count, Delete, Desc, For, From, In, Insert, Into, Limit, Lock, Max, Min, Mode, Not, Null, Offset, Or, Order, Select, Set, Share, Sum, Update, Values, Where, Open, Close, Comma, Dot, Star, Plus, Minus, Semicolon, Equal, NotEqual, Less, AtMost, Greater, AtLeast}
+use Rattle.sql_text.specs.declared.token.Fixed.TheVariants.{And, As, Asc, Between, By, Count, Database, Databases, Delete, Desc, For, From, In, Insert, Into, Limit, Lock, Max, Min, Mode, Not, Null, Offset, Or, Order, Select, Set, Share, Show, Sum, Tables, Update, Values, Where, VersionComment, Open, Close, Comma, Dot, Star, Plus, Minus, Semicolon, Equal, NotEqual, Less, AtMost, Greater, AtLeast}
 use Rattle.sql_text.specs.declared.token.Token.{Token}
 use Rattle.sql_text.specs.declared.token.Token.TheVariants as tokens
 use Rattle.sql_text.specs.Rules.{Rule, is, one, ◌⊳◌, ◌▷◌, ◌∣◌, optional, many, series, at_most_further, parenthesized}
@@ -70,6 +73,15 @@ count (negsuc n) = None
 abbrev pub count_of : Token → Option ℕ
 count_of (tokens.Digits n) = count n
 count_of _ = None
+
+-- the count 1
+abbrev pub one_row : ℤ → Option ℕ
+one_row (pos n) = if n == 1 then Some n else None
+one_row (negsuc n) = None
+
+abbrev pub one_row_of : Token → Option ℕ
+one_row_of (tokens.Digits n) = one_row n
+one_row_of _ = None
 
 -- the word `spider` as it is written
 abbrev pub is_spider : Token → Bool
@@ -208,7 +220,7 @@ column_list depth = (parenthesized (series Comma name) depth ▷ λ l. is (Some 
 abbrev pub insert : ℕ → Rule Statement
 insert depth =
     Insert ⊳ (optional Into ▷ λ _. table ▷ λ t. column_list depth ▷ λ c. Values ⊳ (series Comma (tuple depth) ▷ λ r.
-    is (statements.Insert (record { table = t; columns = c; rows = r }))))
+    is (statements.Table (table_statements.Insert (record { table = t; columns = c; rows = r })))))
 
 -- item = column [[AS] name]
 abbrev pub item : Rule Item
@@ -277,11 +289,30 @@ lock = (Lock ⊳ (In ⊳ (Share ⊳ (Mode ⊳ is locks.Shared)))) ∣ (For ⊳ (
 abbrev pub locked : Rule (Option LockMode)
 locked = (lock ▷ λ m. is (Some m)) ∣ is None
 
--- select = SELECT items FROM tab [WHERE cond] order limit [lock]
+-- items FROM tab [WHERE cond] order limit [lock]
+abbrev pub rows : ℕ → Rule Statement
+rows depth =
+    select_items depth ▷ λ i. From ⊳ (tab ▷ λ t. where_cond depth ▷ λ c. order i ▷ λ o. limit i ▷ λ l. locked ▷ λ m.
+    is (statements.Table (table_statements.Select (record { items = i; tab = t; cond = c; order = o; limit = l; lock = m }))))
+
+-- [LIMIT 1], which leaves nothing behind
+abbrev pub comment_limit : Rule Admin
+comment_limit = (Limit ⊳ (one one_row_of ▷ λ _. is admins.VersionComment)) ∣ is admins.VersionComment
+
+-- @@version_comment [LIMIT 1] | DATABASE "(" ")"
+abbrev pub of_server : ℕ → Rule Admin
+of_server depth = (VersionComment ⊳ comment_limit) ∣ (Database ⊳ parenthesized (is admins.Database) depth)
+
+-- select = SELECT (@@version_comment [LIMIT 1] | DATABASE "(" ")" | items FROM tab [WHERE cond] order limit [lock])
 abbrev pub select : ℕ → Rule Statement
-select depth =
-    Select ⊳ (select_items depth ▷ λ i. From ⊳ (tab ▷ λ t. where_cond depth ▷ λ c. order i ▷ λ o. limit i ▷ λ l. locked ▷ λ m.
-    is (statements.Select (record { items = i; tab = t; cond = c; order = o; limit = l; lock = m }))))
+select depth = Select ⊳ ((of_server depth ▷ λ a. is (statements.Admin a)) ∣ rows depth)
+
+abbrev pub shown : Rule Admin
+shown = (Tables ⊳ is admins.ShowTables) ∣ (Databases ⊳ is admins.ShowDatabases)
+
+-- show = SHOW (TABLES | DATABASES)
+abbrev pub show : Rule Statement
+show = Show ⊳ (shown ▷ λ a. is (statements.Admin a))
 
 -- name "=" expr
 abbrev pub assignment : ℕ → Rule Assignment
@@ -291,16 +322,16 @@ assignment depth = name ▷ λ n. Equal ⊳ (expr depth ▷ λ e. is (record { c
 abbrev pub update : ℕ → Rule Statement
 update depth =
     Update ⊳ (table ▷ λ t. Set ⊳ (series Comma (assignment depth) ▷ λ l. where_cond depth ▷ λ c.
-    is (statements.Update (record { table = t; sets = l; cond = c }))))
+    is (statements.Table (table_statements.Update (record { table = t; sets = l; cond = c })))))
 
 -- delete = DELETE FROM table [WHERE cond]
 abbrev pub delete : ℕ → Rule Statement
-delete depth = Delete ⊳ (From ⊳ (table ▷ λ t. where_cond depth ▷ λ c. is (statements.Delete (record { table = t; cond = c }))))
+delete depth = Delete ⊳ (From ⊳ (table ▷ λ t. where_cond depth ▷ λ c. is (statements.Table (table_statements.Delete (record { table = t; cond = c })))))
 
 abbrev pub body : ℕ → Rule Statement
-body depth = insert depth ∣ select depth ∣ update depth ∣ delete depth
+body depth = insert depth ∣ select depth ∣ show ∣ update depth ∣ delete depth
 
--- statement = (insert | select | update | delete) [";"]
+-- statement = (insert | select | show | update | delete) [";"]
 abbrev pub statement : ℕ → Rule Statement
 statement depth = body depth ▷ λ s. optional Semicolon ▷ λ _. is s
 

@@ -19,6 +19,9 @@ use Rattle.sql_values.specs.declared.places.LockMode.{LockMode}
 use Rattle.sql_values.specs.declared.places.LockMode.TheVariants as locks
 use Rattle.sql_text.specs.declared.statement.Statement.{Statement}
 use Rattle.sql_text.specs.declared.statement.Statement.TheVariants as statements
+use Rattle.sql_text.specs.declared.statement.TableStatement.TheVariants as table_statements
+use Rattle.sql_text.specs.declared.statement.Admin.{Admin}
+use Rattle.sql_text.specs.declared.statement.Admin.TheVariants as admins
 use Rattle.sql_text.specs.declared.statement.SelectItems.{SelectItems}
 use Rattle.sql_text.specs.declared.statement.SelectItems.TheVariants as items
 use Rattle.sql_text.specs.declared.statement.Item.{Item}
@@ -209,9 +212,16 @@ locked_text (Some m) = lock_text m
 abbrev pub assignment_text : Assignment → List ℕ
 assignment_text a = name_text a.column ++ (codes " = " ++ expr_text a.value)
 
+abbrev pub admin_text : Admin → List ℕ
+admin_text admins.ShowTables = codes "SHOW TABLES"
+admin_text admins.ShowDatabases = codes "SHOW DATABASES"
+admin_text admins.VersionComment = codes "SELECT @@version_comment"
+admin_text admins.Database = codes "SELECT DATABASE()"
+
 -- the canonical text
 unfoldable pub printed : Statement → List ℕ
-printed (statements.Insert i) = codes "INSERT INTO " ++ (name_text i.table ++ (columns_text i.columns ++ (codes " VALUES " ++ joined_text (codes ",") (map tuple_text i.rows))))
-printed (statements.Select s) = codes "SELECT " ++ (items_text s.items ++ (codes " FROM " ++ (name_text s.tab.table ++ (alias_text s.tab.alias ++ (where_text s.cond ++ (order_text s.order ++ (limit_text s.limit ++ locked_text s.lock)))))))
-printed (statements.Update u) = codes "UPDATE " ++ (name_text u.table ++ (codes " SET " ++ (joined_text (codes ", ") (map assignment_text u.sets) ++ where_text u.cond)))
-printed (statements.Delete d) = codes "DELETE FROM " ++ (name_text d.table ++ where_text d.cond)
+printed (statements.Table (table_statements.Insert i)) = codes "INSERT INTO " ++ (name_text i.table ++ (columns_text i.columns ++ (codes " VALUES " ++ joined_text (codes ",") (map tuple_text i.rows))))
+printed (statements.Table (table_statements.Select s)) = codes "SELECT " ++ (items_text s.items ++ (codes " FROM " ++ (name_text s.tab.table ++ (alias_text s.tab.alias ++ (where_text s.cond ++ (order_text s.order ++ (limit_text s.limit ++ locked_text s.lock)))))))
+printed (statements.Table (table_statements.Update u)) = codes "UPDATE " ++ (name_text u.table ++ (codes " SET " ++ (joined_text (codes ", ") (map assignment_text u.sets) ++ where_text u.cond)))
+printed (statements.Table (table_statements.Delete d)) = codes "DELETE FROM " ++ (name_text d.table ++ where_text d.cond)
+printed (statements.Admin a) = admin_text a

@@ -13,6 +13,7 @@ use Rattle.sql_values.specs.declared.places.LockMode.{LockMode}
 use Rattle.sql_values.specs.declared.places.LockMode.TheVariants as locks
 use Rattle.sql_text.specs.declared.statement.Statement.{Statement}
 use Rattle.sql_text.specs.declared.statement.Statement.TheVariants as statements
+use Rattle.sql_text.specs.declared.statement.TableStatement.TheVariants as table_statements
 use Rattle.sql_text.specs.declared.statement.SelectItems.{SelectItems}
 use Rattle.sql_text.specs.declared.statement.SelectItems.TheVariants as items
 use Rattle.sql_text.specs.declared.statement.Item.{Item}
@@ -20,17 +21,19 @@ use Rattle.sql_text.specs.declared.statement.AggregateItem.{AggregateItem}
 use Rattle.sql_text.specs.declared.statement.SortItem.{SortItem}
 use Rattle.sql_text.specs.declared.statement.Limit.{Limit as RowLimit}
 use Rattle.sql_text.specs.declared.statement.Tab.{Tab}
+use Rattle.sql_text.specs.declared.statement.Admin.{Admin}
+use Rattle.sql_text.specs.declared.statement.Admin.TheVariants as admins
 use Rattle.sql_text.specs.declared.statement.Assignment.{Assignment}
 use Rattle.sql_text.specs.declared.link.AggregateCall.{AggregateCall}
 use Rattle.sql_text.specs.declared.link.AggregateCall.TheVariants as calls
 use Rattle.sql_text.specs.declared.token.Fixed.{Fixed}
-use Rattle.sql_text.specs.declared.token.Fixed.TheVariants.{And, As, Asc, Between, By, Count, Delete, Desc, For, From, In, Insert, Into, Limit, Lock, Max, Min, Mode, Not, Null, Offset, Or, Order, Select, Set, Share, Sum, Update, Values, Where, Commit, End, Prepare, Recover, Replace, Rollback, Start, Xa, Open, Close, Comma, Dot, Star, Plus, Minus, Semicolon, Equal, NotEqual, Less, AtMost, Greater, AtLeast}
+use Rattle.sql_text.specs.declared.token.Fixed.TheVariants.{And, As, Asc, Between, By, Count, Database, Databases, Delete, Desc, For, From, In, Inner, Insert, Into, Join, Limit, Lock, Max, Min, Mode, Not, Null, Offset, On, Or, Order, Select, Set, Share, Show, Sum, Tables, Update, Values, Where, VersionComment, Commit, End, Prepare, Recover, Replace, Rollback, Start, Xa, Open, Close, Comma, Dot, Star, Plus, Minus, Semicolon, Equal, NotEqual, Less, AtMost, Greater, AtLeast}
 use Rattle.sql_text.specs.declared.token.Token.{Token}
 use Rattle.sql_text.specs.declared.token.Token.TheVariants as tokens
 use Rattle.sql_text.specs.declared.fault.Stop.{Stop}
 use Rattle.sql_text.specs.declared.fault.ReadError.{ReadError}
 use Rattle.sql_text.specs.declared.fault.ReadError.TheVariants as errors
-use Rattle.sql_text.specs.Grammar.{name_of, literal_of, comparison_of, sign_of, count_of, is_spider, joined, addend}
+use Rattle.sql_text.specs.Grammar.{name_of, literal_of, comparison_of, sign_of, count_of, one_row_of, is_spider, joined, addend}
 
 -- FAULTS AND STEPS
 
@@ -109,6 +112,14 @@ number_of Minus = 48
 number_of Asc = 49
 number_of Desc = 50
 number_of Offset = 51
+number_of Database = 52
+number_of Databases = 53
+number_of Inner = 54
+number_of Join = 55
+number_of On = 56
+number_of Show = 57
+number_of Tables = 58
+number_of VersionComment = 59
 
 abbrev pub is_fixed : Fixed → Token → Bool
 is_fixed f (tokens.Fixed g) = number_of g == number_of f
@@ -314,7 +325,7 @@ unfoldable pub insert_at : ℕ → List Token → Result (Statement × List Toke
 insert_at depth ts =
     expect Insert ts >>= λ rest. optional_at Into rest >>= λ into. table_at into.1 >>= λ t. column_list_at depth t.1 >>= λ c.
     expect Values c.1 >>= λ rest. series_at Comma (literal_list_at depth) rest >>= λ r.
-    Ok (statements.Insert (record { table = t.0; columns = c.0; rows = r.0 }), r.1)
+    Ok (statements.Table (table_statements.Insert (record { table = t.0; columns = c.0; rows = r.0 })), r.1)
 
 unfoldable pub item_at : List Token → Result (Item × List Token) Stop
 item_at ts = column_at ts >>= λ c. alias_at c.1 >>= λ a. Ok (record { column = c.0; alias = a.0 }, a.1)
@@ -388,11 +399,34 @@ lock_at ts = if begins Lock ts then share_at (behind ts) else for_update_at ts
 unfoldable pub locked_at : List Token → Result (Option LockMode × List Token) Stop
 locked_at ts = if begins Lock ts || begins For ts then (lock_at ts >>= λ m. Ok (Some m.0, m.1)) else Ok (None, ts)
 
-unfoldable pub select_at : ℕ → List Token → Result (Statement × List Token) Stop
-select_at depth ts =
-    expect Select ts >>= λ rest. select_items_at depth rest >>= λ i. expect From i.1 >>= λ rest. tab_at rest >>= λ t. where_at depth t.1 >>= λ c.
+unfoldable pub rows_at : ℕ → List Token → Result (Statement × List Token) Stop
+rows_at depth ts =
+    select_items_at depth ts >>= λ i. expect From i.1 >>= λ rest. tab_at rest >>= λ t. where_at depth t.1 >>= λ c.
     order_at i.0 c.1 >>= λ o. limit_at i.0 o.1 >>= λ l. locked_at l.1 >>= λ m.
-    Ok (statements.Select (record { items = i.0; tab = t.0; cond = c.0; order = o.0; limit = l.0; lock = m.0 }), m.1)
+    Ok (statements.Table (table_statements.Select (record { items = i.0; tab = t.0; cond = c.0; order = o.0; limit = l.0; lock = m.0 })), m.1)
+
+unfoldable pub comment_limit_at : List Token → Result (Admin × List Token) Stop
+comment_limit_at ts = if begins Limit ts then (one_at one_row_of (behind ts) >>= λ n. Ok (admins.VersionComment, n.1)) else Ok (admins.VersionComment, ts)
+
+unfoldable pub database_at : ℕ → List Token → Result (Admin × List Token) Stop
+database_at depth ts = parenthesized_at (λ inside. Ok (admins.Database, inside)) depth ts
+
+unfoldable pub of_server_at : ℕ → List Token → Result (Admin × List Token) Stop
+of_server_at depth ts = if begins VersionComment ts then comment_limit_at (behind ts) else (expect Database ts >>= database_at depth)
+
+-- what stands behind SELECT
+unfoldable pub asked_at : ℕ → List Token → Result (Statement × List Token) Stop
+asked_at depth ts =
+    if begins VersionComment ts || begins Database ts then (of_server_at depth ts >>= λ a. Ok (statements.Admin a.0, a.1)) else rows_at depth ts
+
+unfoldable pub select_at : ℕ → List Token → Result (Statement × List Token) Stop
+select_at depth ts = expect Select ts >>= asked_at depth
+
+unfoldable pub shown_at : List Token → Result (Admin × List Token) Stop
+shown_at ts = if begins Tables ts then Ok (admins.ShowTables, behind ts) else (expect Databases ts >>= λ rest. Ok (admins.ShowDatabases, rest))
+
+unfoldable pub show_at : List Token → Result (Statement × List Token) Stop
+show_at ts = expect Show ts >>= λ rest. shown_at rest >>= λ a. Ok (statements.Admin a.0, a.1)
 
 unfoldable pub assignment_at : ℕ → List Token → Result (Assignment × List Token) Stop
 assignment_at depth ts = name_at ts >>= λ n. expect Equal n.1 >>= λ rest. expr_at depth rest >>= λ e. Ok (record { column = n.0; value = e.0 }, e.1)
@@ -400,19 +434,20 @@ assignment_at depth ts = name_at ts >>= λ n. expect Equal n.1 >>= λ rest. expr
 unfoldable pub update_at : ℕ → List Token → Result (Statement × List Token) Stop
 update_at depth ts =
     expect Update ts >>= λ rest. table_at rest >>= λ t. expect Set t.1 >>= λ rest. series_at Comma (assignment_at depth) rest >>= λ l. where_at depth l.1 >>= λ c.
-    Ok (statements.Update (record { table = t.0; sets = l.0; cond = c.0 }), c.1)
+    Ok (statements.Table (table_statements.Update (record { table = t.0; sets = l.0; cond = c.0 })), c.1)
 
 unfoldable pub delete_at : ℕ → List Token → Result (Statement × List Token) Stop
 delete_at depth ts =
     expect Delete ts >>= λ rest. expect From rest >>= λ rest. table_at rest >>= λ t. where_at depth t.1 >>= λ c.
-    Ok (statements.Delete (record { table = t.0; cond = c.0 }), c.1)
+    Ok (statements.Table (table_statements.Delete (record { table = t.0; cond = c.0 })), c.1)
 
 unfoldable pub body_at : ℕ → List Token → Result (Statement × List Token) Stop
 body_at depth ts =
     if begins Insert ts then insert_at depth ts
     else (if begins Select ts then select_at depth ts
+    else (if begins Show ts then show_at ts
     else (if begins Update ts then update_at depth ts
-    else delete_at depth ts))
+    else delete_at depth ts)))
 
 -- what was read, where nothing stands behind it
 abbrev pub ended : {X : Type 0} → X → List Token → Result X Stop

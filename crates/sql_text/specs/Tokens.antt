@@ -5,7 +5,7 @@ use Rattle.std.specs.Char.{is_ascii_digit, to_ascii_uppercase}
 use Rattle.std.specs.Str.Lossy.{utf8_lossy}
 use Rattle.sql_values.specs.Names.{is_name, begins_name, continues_name}
 use Rattle.sql_text.specs.declared.token.Fixed.{Fixed}
-use Rattle.sql_text.specs.declared.token.Fixed.TheVariants.{And, As, Asc, Between, By, Count, Delete, Desc, For, From, In, Insert, Into, Limit, Lock, Max, Min, Mode, Not, Null, Offset, Or, Order, Select, Set, Share, Sum, Update, Values, Where, Commit, End, Prepare, Recover, Replace, Rollback, Start, Xa, Open, Close, Comma, Dot, Star, Plus, Minus, Semicolon, Equal, NotEqual, Less, AtMost, Greater, AtLeast}
+use Rattle.sql_text.specs.declared.token.Fixed.TheVariants.{And, As, Asc, Between, By, Count, Database, Databases, Delete, Desc, For, From, In, Inner, Insert, Into, Join, Limit, Lock, Max, Min, Mode, Not, Null, Offset, On, Or, Order, Select, Set, Share, Show, Sum, Tables, Update, Values, Where, VersionComment, Commit, End, Prepare, Recover, Replace, Rollback, Start, Xa, Open, Close, Comma, Dot, Star, Plus, Minus, Semicolon, Equal, NotEqual, Less, AtMost, Greater, AtLeast}
 use Rattle.sql_text.specs.declared.token.Before.{Before}
 use Rattle.sql_text.specs.declared.token.Dialect.{Dialect}
 use Rattle.sql_text.specs.declared.token.Dialect.TheVariants.{Statements, Links}
@@ -68,12 +68,24 @@ aggregate_word bytes =
     else (if is_word (codes "MAX") bytes then Some Max
     else None)))
 
+-- those of joins and of administration
+abbrev pub join_word : List ℕ → Option Fixed
+join_word bytes =
+    if is_word (codes "INNER") bytes then Some Inner
+    else (if is_word (codes "JOIN") bytes then Some Join
+    else (if is_word (codes "ON") bytes then Some On
+    else (if is_word (codes "SHOW") bytes then Some Show
+    else (if is_word (codes "TABLES") bytes then Some Tables
+    else (if is_word (codes "DATABASES") bytes then Some Databases
+    else (if is_word (codes "DATABASE") bytes then Some Database
+    else None))))))
+
 abbrev pub first_word : Option Fixed → Option Fixed → Option Fixed
 first_word None other = other
 first_word (Some f) other = Some f
 
 abbrev pub keyword_of : List ℕ → Option Fixed
-keyword_of bytes = first_word (basic_word bytes) (first_word (change_word bytes) (first_word (order_word bytes) (aggregate_word bytes)))
+keyword_of bytes = first_word (basic_word bytes) (first_word (change_word bytes) (first_word (order_word bytes) (first_word (aggregate_word bytes) (join_word bytes))))
 
 -- a keyword, or a name of at most 64 bytes
 abbrev pub word_token : Option Fixed → List ℕ → Token
@@ -87,6 +99,17 @@ run passes (b ∷ bytes) = if passes b then (b ∷ (run passes bytes).0, (run pa
 
 abbrev pub word_at : List ℕ → Token × List ℕ
 word_at bytes = let r = run continues_name bytes in (word_token (keyword_of r.0) r.0, r.1)
+
+-- VARIABLES
+
+-- a variable of the server, which is a keyword
+abbrev pub variable_token : List ℕ → Token
+variable_token bytes = if is_word (codes "VERSION_COMMENT") bytes then tokens.Fixed VersionComment else tokens.Bad
+
+-- a variable, behind the first of the two `@` before its name
+abbrev pub variable_at : List ℕ → Token × List ℕ
+variable_at [] = (tokens.Bad, [])
+variable_at (b ∷ bytes) = if b == 64 then (let r = run continues_name bytes in (variable_token r.0, r.1)) else (tokens.Bad, b ∷ bytes)
 
 -- NUMBERS
 
@@ -232,7 +255,8 @@ other_at operand b bytes =
     else (if b == 45 then signed_at operand true bytes
     else (if b == 39 || b == 34 then text_at (text_from b Plain bytes)
     else (if b == 96 then quoted_at (up_to 96 bytes)
-    else symbol_at b bytes)))
+    else (if b == 64 then variable_at bytes
+    else symbol_at b bytes))))
 
 -- a token at the front, or nothing where blanks stand there, and what is behind it
 abbrev pub lexeme_at : Bool → List ℕ → Option Token × List ℕ
@@ -269,12 +293,16 @@ abbrev pub placed : ℕ → Before → Option Token × List ℕ → Step
 placed left before (None, rest) = ([], Some (before, rest))
 placed left before (Some token, rest) = ((token, left) ∷ [], if is_bad token then None else Some (record { touching = before.touching; operand = ends_operand token }, rest))
 
--- between two tokens that are each a word or digits stands a blank
+-- a byte with which a word, digits or a variable begin
+abbrev pub begins_word : ℕ → Bool
+begins_word b = continues_name b || b == 64
+
+-- between two tokens that are each a word, digits or a variable stands a blank
 abbrev pub step_at : Before → List ℕ → Step
 step_at before [] = ([], None)
 step_at before (b ∷ bytes) =
-    if before.touching && continues_name b then ((tokens.Bad, length (b ∷ bytes)) ∷ [], None)
-    else placed (length (b ∷ bytes)) (record { touching = continues_name b; operand = before.operand }) (lexeme_at before.operand (b ∷ bytes))
+    if before.touching && begins_word b then ((tokens.Bad, length (b ∷ bytes)) ∷ [], None)
+    else placed (length (b ∷ bytes)) (record { touching = begins_word b; operand = before.operand }) (lexeme_at before.operand (b ∷ bytes))
 
 abbrev pub onward : (Before → List ℕ → List Placed) → Step → List Placed
 onward again (found, None) = found

@@ -86,6 +86,14 @@ fn number(fixed: Fixed) -> u8
         Fixed::Asc => 49,
         Fixed::Desc => 50,
         Fixed::Offset => 51,
+        Fixed::Database => 52,
+        Fixed::Databases => 53,
+        Fixed::Inner => 54,
+        Fixed::Join => 55,
+        Fixed::On => 56,
+        Fixed::Show => 57,
+        Fixed::Tables => 58,
+        Fixed::VersionComment => 59,
     }
 }
 

@@ -6,7 +6,7 @@ ghost use Rattle.sql_text.specs.Parsing.{lefts_of};
 use crate::lexer::blanks::{comment, is_blank};
 use crate::lexer::digits::{digits, signed};
 use crate::lexer::quoted::{quoted_name, text};
-use crate::lexer::words::{begins_name, continues_name, in_dialect, word};
+use crate::lexer::words::{begins_name, begins_word, in_dialect, variable, word};
 use crate::token::{Before, Dialect, Fixed, Token};
 use std::alloc::{AllocError, Global};
 
@@ -120,6 +120,7 @@ fn other_token(
         b'-' => Ok(signed(operand, true, rest)),
         b'\'' | b'"' => text(alloc, first, rest),
         b'`' => quoted_name(alloc, rest),
+        b'@' => Ok(variable(rest)),
         _ => Ok(symbol(first, rest)),
     }
 }
@@ -166,7 +167,7 @@ fn step<'a>(
         return Ok(None);
     };
     let left = bytes.len();
-    let touches = continues_name(*first);
+    let touches = begins_word(*first);
     if before.touching && touches {
         out.push(Token::Bad, left)?;
         return Ok(None);

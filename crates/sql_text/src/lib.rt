@@ -5,9 +5,12 @@
 //! them, up to the first that is no token. Tokens are a statement by `specs/Grammar`, or a request by `specs/LinkGrammar`, relations made rule by rule, apart
 //! from the parser. INSERT has an optional list of columns and rows of literals. SELECT has `*` or at most 900 columns with aliases, or at most 900 aggregates
 //! with aliases, one table, a condition, and FOR UPDATE or LOCK IN SHARE MODE; ORDER BY, LIMIT and OFFSET only where it has no aggregates, and in `LIMIT a, b`
-//! the offset is a. UPDATE sets columns to expressions, and like DELETE it has one table and a condition. The ten requests are five of a branch and XA
-//! RECOVER, a scan, rows that are put, and keys that go, by list or between two. The words of link text that no statement has, as XA or REPLACE, are keywords
-//! there alone, and names in statements.
+//! the offset is a. UPDATE sets columns to expressions, and like DELETE it has one table and a condition. SHOW TABLES, SHOW DATABASES, SELECT
+//! @@version_comment, with LIMIT 1 or without, and SELECT DATABASE() ask about the server. The ten requests are five of a branch and XA RECOVER, a scan, rows
+//! that are put, and keys that go, by list or between two. The words of link text that no statement has, as XA or REPLACE, are keywords there alone, and names
+//! in statements; INNER, JOIN and ON are keywords of which no statement has one.
+//!
+//! Between two tokens that are each a word, digits or @@version_comment stands a blank.
 //!
 //! A sign directly before digits is one token with them, except behind a name, digits, a text, NULL or `)`, where it is an operator: `v -1` is `v - 1`.
 //!
@@ -40,7 +43,8 @@ pub use link_printing::print_link;
 pub use parsing::{MOST_LINK_OPENINGS, MOST_OPENINGS, parse, parse_link};
 pub use printing::{print, push_quoted};
 pub use statement::{
-    AggregateItem, AggregateItems, Assignment, Assignments, Delete, Insert, Item, ItemList, Limit,
-    Names, Select, SelectItems, SortItem, SortList, Statement, Tab, Tuples, Update,
+    Admin, AggregateItem, AggregateItems, Assignment, Assignments, Delete, Insert, Item, ItemList,
+    Limit, Names, Select, SelectItems, SortItem, SortList, Statement, Tab, TableStatement, Tuples,
+    Update,
 };
 pub use token::{Fixed, Token};

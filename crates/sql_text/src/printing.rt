@@ -3,14 +3,15 @@ ghost use Rattle.std.specs.Prelude.{◌≡◌, ◌++◌, [], ◌∷◌, OnOk, If
 ghost use Rattle.std.specs.List.{flat_map};
 ghost use Rattle.std.specs.Fmt.{signed_decimal};
 ghost use Rattle.sql_text.specs.declared.statement.Statement.TheVariants as statements;
+ghost use Rattle.sql_text.specs.declared.statement.TableStatement.TheVariants as table_statements;
 ghost use Rattle.sql_text.specs.Printing.{escaped, quoted, literal_text, name_text, joined_text, qualifier_text, column_text, operand_text, comparison_text, negation_text, literals_text, opening, closing, at_level, shown_cond, cond_text, alias_text, item_text, items_text, where_text, columns_text, tuple_text, order_text, limit_text, lock_text, locked_text, assignment_text, printed};
 
 use crate::printing::aggregates::push_aggregate_items;
 use crate::printing::expressions::push_expr;
 use crate::printing::orders::{push_limit, push_order};
 use crate::statement::{
-    Assignment, Assignments, Delete, Insert, Item, Names, Select, SelectItems, Statement, Tab,
-    Update,
+    Admin, Assignment, Assignments, Delete, Insert, Item, Names, Select, SelectItems, Statement,
+    Tab, TableStatement, Update,
 };
 use list_types::{Bytes, Listed};
 use sql_values::{ColumnName, Comparison, Cond, Literal, Literals, LockMode, Name, Operand};
@@ -419,7 +420,7 @@ fn push_values(alloc: Global, out: &mut Vec<u8>, rows: &[Literals]) -> Result<()
 /// Adds an INSERT.
 #[tactic(auto, unfolding(crate::specs::Printing::printed))]
 fn push_insert(alloc: Global, out: &mut Vec<u8>, insert: &Insert) -> Result<(), AllocError>
-    ensures { OnOk result (out.new.items ≡ out.old.items ++ printed (statements.Insert insert.now)) }
+    ensures { OnOk result (out.new.items ≡ out.old.items ++ printed (statements.Table (table_statements.Insert insert.now))) }
 {
     out.extend_from_slice(b"INSERT INTO ")?;
     push_name(out, &insert.table)?;
@@ -476,7 +477,7 @@ fn push_select_end(alloc: Global, out: &mut Vec<u8>, select: &Select) -> Result<
 /// Adds a SELECT.
 #[tactic(auto, unfolding(crate::specs::Printing::printed))]
 fn push_select(alloc: Global, out: &mut Vec<u8>, select: &Select) -> Result<(), AllocError>
-    ensures { OnOk result (out.new.items ≡ out.old.items ++ printed (statements.Select select.now)) }
+    ensures { OnOk result (out.new.items ≡ out.old.items ++ printed (statements.Table (table_statements.Select select.now))) }
 {
     out.extend_from_slice(b"SELECT ")?;
     push_items(out, &select.items)?;
@@ -537,7 +538,7 @@ fn push_set(alloc: Global, out: &mut Vec<u8>, sets: &Assignments) -> Result<(), 
 /// Adds an UPDATE.
 #[tactic(auto, unfolding(crate::specs::Printing::printed))]
 fn push_update(alloc: Global, out: &mut Vec<u8>, update: &Update) -> Result<(), AllocError>
-    ensures { OnOk result (out.new.items ≡ out.old.items ++ printed (statements.Update update.now)) }
+    ensures { OnOk result (out.new.items ≡ out.old.items ++ printed (statements.Table (table_statements.Update update.now))) }
 {
     out.extend_from_slice(b"UPDATE ")?;
     push_name(out, &update.table)?;
@@ -548,11 +549,40 @@ fn push_update(alloc: Global, out: &mut Vec<u8>, update: &Update) -> Result<(), 
 /// Adds a DELETE.
 #[tactic(auto, unfolding(crate::specs::Printing::printed))]
 fn push_delete(alloc: Global, out: &mut Vec<u8>, delete: &Delete) -> Result<(), AllocError>
-    ensures { OnOk result (out.new.items ≡ out.old.items ++ printed (statements.Delete delete.now)) }
+    ensures { OnOk result (out.new.items ≡ out.old.items ++ printed (statements.Table (table_statements.Delete delete.now))) }
 {
     out.extend_from_slice(b"DELETE FROM ")?;
     push_name(out, &delete.table)?;
     push_where(alloc, out, &delete.cond)
+}
+
+/// Adds a statement on tables.
+fn push_table_statement(
+    alloc: Global,
+    out: &mut Vec<u8>,
+    statement: &TableStatement,
+) -> Result<(), AllocError>
+    ensures { OnOk result (out.new.items ≡ out.old.items ++ printed (statements.Table statement.now)) }
+{
+    match statement {
+        TableStatement::Insert(insert) => push_insert(alloc, out, insert),
+        TableStatement::Select(select) => push_select(alloc, out, select),
+        TableStatement::Update(update) => push_update(alloc, out, update),
+        TableStatement::Delete(delete) => push_delete(alloc, out, delete),
+    }
+}
+
+/// Adds a question about the server.
+#[tactic(auto, unfolding(crate::specs::Printing::printed))]
+fn push_admin(out: &mut Vec<u8>, admin: Admin) -> Result<(), AllocError>
+    ensures { OnOk result (out.new.items ≡ out.old.items ++ printed (statements.Admin admin)) }
+{
+    match admin {
+        Admin::ShowTables => out.extend_from_slice(b"SHOW TABLES"),
+        Admin::ShowDatabases => out.extend_from_slice(b"SHOW DATABASES"),
+        Admin::VersionComment => out.extend_from_slice(b"SELECT @@version_comment"),
+        Admin::Database => out.extend_from_slice(b"SELECT DATABASE()"),
+    }
 }
 
 /// The canonical text of a statement: keywords in capitals, one blank between words, names in backquotes, values with `,` between them and other lists with
@@ -563,10 +593,8 @@ pub fn print(alloc: Global, statement: &Statement) -> Result<Bytes, AllocError>
 {
     let mut out = Vec::new(alloc);
     match statement {
-        Statement::Insert(insert) => push_insert(alloc, &mut out, insert)?,
-        Statement::Select(select) => push_select(alloc, &mut out, select)?,
-        Statement::Update(update) => push_update(alloc, &mut out, update)?,
-        Statement::Delete(delete) => push_delete(alloc, &mut out, delete)?,
+        Statement::Table(statement) => push_table_statement(alloc, &mut out, statement)?,
+        Statement::Admin(admin) => push_admin(&mut out, *admin)?,
     }
     Ok(Listed::from_vec(out))
 }

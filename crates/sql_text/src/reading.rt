@@ -1,4 +1,5 @@
 //! Statements out of tokens, by recursive descent: a function for each rule of the grammar.
+pub mod admin;
 pub mod aggregates;
 pub mod branches;
 pub mod conditions;

@@ -5,6 +5,15 @@ use sql_values::{ColumnName, Cond, Expr, Literals, LockMode, Name};
 /// A statement of a client.
 #[derive(Debug, Drop)]
 pub enum Statement {
+    /// A statement on tables.
+    Table(TableStatement),
+    /// A question about the server.
+    Admin(Admin),
+}
+
+/// A statement on tables.
+#[derive(Debug, Drop)]
+pub enum TableStatement {
     /// INSERT.
     Insert(Insert),
     /// SELECT.
@@ -13,6 +22,19 @@ pub enum Statement {
     Update(Update),
     /// DELETE.
     Delete(Delete),
+}
+
+/// A question about the server, as programs of administration and connectors put it.
+#[derive(Clone, Copy, Debug, PartialEq, Eq)]
+pub enum Admin {
+    /// SHOW TABLES.
+    ShowTables,
+    /// SHOW DATABASES.
+    ShowDatabases,
+    /// SELECT @@version_comment, with LIMIT 1 or without.
+    VersionComment,
+    /// SELECT DATABASE().
+    Database,
 }
 
 /// Names of columns, in order.

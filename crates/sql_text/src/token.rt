@@ -10,13 +10,17 @@ pub enum Fixed {
     Between,
     By,
     Count,
+    Database,
+    Databases,
     Delete,
     Desc,
     For,
     From,
     In,
+    Inner,
     Insert,
     Into,
+    Join,
     Limit,
     Lock,
     Max,
@@ -25,15 +29,20 @@ pub enum Fixed {
     Not,
     Null,
     Offset,
+    On,
     Or,
     Order,
     Select,
     Set,
     Share,
+    Show,
     Sum,
+    Tables,
     Update,
     Values,
     Where,
+    /// `@@version_comment`
+    VersionComment,
     Commit,
     End,
     Prepare,
@@ -94,7 +103,7 @@ pub enum Token {
 /// What stands before a place of a text.
 #[derive(Clone, Copy, Debug, PartialEq, Eq)]
 pub struct Before {
-    /// Whether a word or digits stand directly before it.
+    /// Whether a word, digits or a variable stand directly before it.
     pub touching: bool,
     /// Whether the token before it ends an operand, so that a sign there is an operator.
     pub operand: bool,

@@ -1,7 +1,7 @@
-//! Words: keywords and names.
+//! Words: keywords, names and variables.
 ghost use Rattle.std.specs.Prelude.{◌≡◌, IfOk, Some, None, if◌then◌else◌};
 ghost use Rattle.sql_values.specs.Names.{is_name, begins_name as may_begin, continues_name as may_continue};
-ghost use Rattle.sql_text.specs.Tokens.{is_word as word_is, basic_word, change_word, order_word, aggregate_word, keyword_of, run, word_at, in_dialect as token_in_dialect, link_word};
+ghost use Rattle.sql_text.specs.Tokens.{is_word as word_is, basic_word, change_word, order_word, aggregate_word, join_word, keyword_of, run, word_at, variable_at, begins_word as may_begin_word, in_dialect as token_in_dialect, link_word};
 
 use crate::token::{Dialect, Fixed, Token};
 use list_types::Text;
@@ -145,6 +145,34 @@ fn aggregate_keyword(bytes: &[u8]) -> Option<Fixed>
     None
 }
 
+/// The keyword that the bytes are in a join or a statement of administration.
+fn join_keyword(bytes: &[u8]) -> Option<Fixed>
+    ensures { result ≡ join_word bytes.now }
+{
+    if is_word(b"INNER", bytes) {
+        return Some(Fixed::Inner);
+    }
+    if is_word(b"JOIN", bytes) {
+        return Some(Fixed::Join);
+    }
+    if is_word(b"ON", bytes) {
+        return Some(Fixed::On);
+    }
+    if is_word(b"SHOW", bytes) {
+        return Some(Fixed::Show);
+    }
+    if is_word(b"TABLES", bytes) {
+        return Some(Fixed::Tables);
+    }
+    if is_word(b"DATABASES", bytes) {
+        return Some(Fixed::Databases);
+    }
+    if is_word(b"DATABASE", bytes) {
+        return Some(Fixed::Database);
+    }
+    None
+}
+
 /// The keyword that the bytes are.
 fn keyword(bytes: &[u8]) -> Option<Fixed>
     ensures { result ≡ keyword_of bytes.now }
@@ -158,7 +186,10 @@ fn keyword(bytes: &[u8]) -> Option<Fixed>
     if let Some(fixed) = order_keyword(bytes) {
         return Some(fixed);
     }
-    aggregate_keyword(bytes)
+    if let Some(fixed) = aggregate_keyword(bytes) {
+        return Some(fixed);
+    }
+    join_keyword(bytes)
 }
 
 /// The keyword of link text alone that the bytes are.
@@ -248,6 +279,28 @@ pub fn continues_name(byte: u8) -> bool
     ensures { result ≡ may_continue byte }
 {
     begins_name(byte) || byte.is_ascii_digit()
+}
+
+/// Whether a word, digits or a variable begin with this byte.
+pub fn begins_word(byte: u8) -> bool
+    ensures { result ≡ may_begin_word byte }
+{
+    continues_name(byte) || byte == b'@'
+}
+
+/// A variable, behind the first `@`.
+pub fn variable(bytes: &[u8]) -> (Token, &[u8])
+    ensures { (result.0, result.1.now) ≡ variable_at bytes.now }
+{
+    let [b'@', named @ ..] = bytes else {
+        return (Token::Bad, bytes);
+    };
+    let (word, rest) = word_run(named);
+    if is_word(b"VERSION_COMMENT", word) {
+        (Token::Fixed(Fixed::VersionComment), rest)
+    } else {
+        (Token::Bad, rest)
+    }
 }
 
 /// A word: a keyword or a name.

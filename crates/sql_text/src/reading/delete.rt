@@ -6,7 +6,7 @@ use crate::cursor::expect;
 use crate::fault::ReadError;
 use crate::reading::names::table;
 use crate::reading::select::where_cond;
-use crate::statement::{Delete, Statement};
+use crate::statement::{Delete, Statement, TableStatement};
 use crate::token::{Fixed, Token};
 use std::alloc::Global;
 
@@ -23,5 +23,6 @@ pub fn delete(
     let rest = expect(Fixed::From, rest)?;
     let (table, rest) = table(rest)?;
     let (cond, rest) = where_cond(alloc, depth, rest)?;
-    Ok((Statement::Delete(Delete { table, cond }), rest))
+    let delete = Delete { table, cond };
+    Ok((Statement::Table(TableStatement::Delete(delete)), rest))
 }

@@ -6,7 +6,7 @@ ghost use Rattle.sql_text.specs.Reading.{Gives, name_at, column_list_at, insert_
 use crate::cursor::{begins, behind, expect, name, open, optional};
 use crate::fault::ReadError;
 use crate::reading::names::{literal_list, table};
-use crate::statement::{Insert, Names, Statement, Tuples};
+use crate::statement::{Insert, Names, Statement, TableStatement, Tuples};
 use crate::token::{Fixed, Token};
 use list_types::Listed;
 use sql_values::{Literals, Name};
@@ -122,5 +122,5 @@ pub fn insert(
         columns,
         rows,
     };
-    Ok((Statement::Insert(insert), rest))
+    Ok((Statement::Table(TableStatement::Insert(insert)), rest))
 }

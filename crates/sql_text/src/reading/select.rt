@@ -1,17 +1,18 @@
 //! SELECT.
 ghost use Rattle.std.specs.Prelude.{◌≡◌, ◌++◌, [], ◌∷◌, length};
 ghost use Rattle.sql_text.specs.declared.token.Fixed.TheVariants as fixed;
-ghost use Rattle.sql_text.specs.Reading.{Gives, item_at, column_items_at, aggregate_item_at, aggregate_items_at, select_items_at, tab_at, where_at, select_at, further_at, with_front};
+ghost use Rattle.sql_text.specs.Reading.{Gives, item_at, column_items_at, aggregate_item_at, aggregate_items_at, select_items_at, tab_at, where_at, rows_at, asked_at, select_at, further_at, with_front};
 
 use crate::cursor::{begins, behind, expect, name_stands};
 use crate::fault::ReadError;
+use crate::reading::admin::of_server;
 use crate::reading::aggregates::aggregate;
 use crate::reading::conditions::cond;
 use crate::reading::limits::limit;
 use crate::reading::locks::locked;
 use crate::reading::names::{alias, column, table};
 use crate::reading::orders::order;
-use crate::statement::{AggregateItem, Item, Select, SelectItems, Statement, Tab};
+use crate::statement::{AggregateItem, Item, Select, SelectItems, Statement, Tab, TableStatement};
 use crate::token::{Fixed, Token};
 use list_types::Listed;
 use sql_values::Cond;
@@ -161,17 +162,12 @@ pub fn where_cond(
     Ok((Some(cond), rest))
 }
 
-/// SELECT.
-#[tactic(auto, unfolding(crate::specs::Reading::select_at))]
-pub fn select(
-    alloc: Global,
-    depth: u32,
-    tokens: &[Token],
-) -> Result<(Statement, &[Token]), ReadError>
-    ensures { Gives (λ x. (x.0, x.1.now)) result (select_at depth tokens.now) }
+/// A SELECT of rows, behind its first word.
+#[tactic(auto, unfolding(crate::specs::Reading::rows_at))]
+fn rows(alloc: Global, depth: u32, tokens: &[Token]) -> Result<(Statement, &[Token]), ReadError>
+    ensures { Gives (λ x. (x.0, x.1.now)) result (rows_at depth tokens.now) }
 {
-    let rest = expect(Fixed::Select, tokens)?;
-    let (items, rest) = select_items(alloc, depth, rest)?;
+    let (items, rest) = select_items(alloc, depth, tokens)?;
     let rest = expect(Fixed::From, rest)?;
     let (tab, rest) = tab(rest)?;
     let (cond, rest) = where_cond(alloc, depth, rest)?;
@@ -186,5 +182,30 @@ pub fn select(
         limit,
         lock,
     };
-    Ok((Statement::Select(select), rest))
+    Ok((Statement::Table(TableStatement::Select(select)), rest))
+}
+
+/// What stands behind SELECT.
+#[tactic(auto, unfolding(crate::specs::Reading::asked_at))]
+fn asked(alloc: Global, depth: u32, tokens: &[Token]) -> Result<(Statement, &[Token]), ReadError>
+    ensures { Gives (λ x. (x.0, x.1.now)) result (asked_at depth tokens.now) }
+{
+    if begins(Fixed::VersionComment, tokens) || begins(Fixed::Database, tokens) {
+        let (admin, rest) = of_server(depth, tokens)?;
+        return Ok((Statement::Admin(admin), rest));
+    }
+    rows(alloc, depth, tokens)
+}
+
+/// SELECT.
+#[tactic(auto, unfolding(crate::specs::Reading::select_at))]
+pub fn select(
+    alloc: Global,
+    depth: u32,
+    tokens: &[Token],
+) -> Result<(Statement, &[Token]), ReadError>
+    ensures { Gives (λ x. (x.0, x.1.now)) result (select_at depth tokens.now) }
+{
+    let rest = expect(Fixed::Select, tokens)?;
+    asked(alloc, depth, rest)
 }

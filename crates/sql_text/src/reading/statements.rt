@@ -4,6 +4,7 @@ ghost use Rattle.sql_text.specs.Reading.{Gives, body_at, statement_at, ended};
 
 use crate::cursor::{begins, optional, syntax_error};
 use crate::fault::ReadError;
+use crate::reading::admin::show;
 use crate::reading::delete::delete;
 use crate::reading::insert::insert;
 use crate::reading::select::select;
@@ -22,6 +23,9 @@ fn body(alloc: Global, depth: u32, tokens: &[Token]) -> Result<(Statement, &[Tok
     }
     if begins(Fixed::Select, tokens) {
         return select(alloc, depth, tokens);
+    }
+    if begins(Fixed::Show, tokens) {
+        return show(tokens);
     }
     if begins(Fixed::Update, tokens) {
         return update(alloc, depth, tokens);

@@ -8,7 +8,7 @@ use crate::fault::ReadError;
 use crate::reading::expressions::expr;
 use crate::reading::names::table;
 use crate::reading::select::where_cond;
-use crate::statement::{Assignment, Assignments, Statement, Update};
+use crate::statement::{Assignment, Assignments, Statement, TableStatement, Update};
 use crate::token::{Fixed, Token};
 use list_types::Listed;
 use std::alloc::Global;
@@ -83,5 +83,6 @@ pub fn update(
     let rest = expect(Fixed::Set, rest)?;
     let (sets, rest) = assignments(alloc, depth, rest)?;
     let (cond, rest) = where_cond(alloc, depth, rest)?;
-    Ok((Statement::Update(Update { table, sets, cond }), rest))
+    let update = Update { table, sets, cond };
+    Ok((Statement::Table(TableStatement::Update(update)), rest))
 }
