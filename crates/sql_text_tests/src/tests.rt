@@ -160,6 +160,34 @@ fn sorts_limits_and_aggregates(rt: HostRuntime) -> Result<(), Fail> {
 }
 
 #[test]
+fn questions_about_the_server(rt: HostRuntime) -> Result<(), Fail> {
+    let cases: [(&[u8], u8, u64); 18] = [
+        (b"SELECT @@version_comment LIMIT 1", 0, 0),
+        (b"select/* c */@@VERSION_comment;", 0, 0),
+        (b"SELECT @@version_comment LIMIT 2", 1, 31),
+        (b"SELECT @@version_comment LIMIT 1, 1", 1, 32),
+        (b"SELECT @@version", 1, 7),
+        (b"SELECT @@version_commentx", 1, 7),
+        (b"SELECT@@version_comment", 1, 6),
+        (b"SELECT a@@version_comment", 1, 8),
+        (b"SELECT 1@@version_comment", 1, 7),
+        (b"show\n/* c */ tables ;", 0, 0),
+        (b"SHOW", 1, 4),
+        (b"SHOW TABLE", 1, 5),
+        (b"SHOW DATABASES FROM t", 1, 15),
+        (b"SELECT DATABASE", 1, 15),
+        (b"SELECT DATABASE(1)", 1, 16),
+        (b"SELECT DATABASE() FROM t", 1, 18),
+        (b"SELECT tables FROM t", 1, 7),
+        (b"SELECT `inner`, `on` FROM `join`", 0, 0),
+    ];
+    for (text, kind, place) in cases {
+        assert_eq!(rt; outcome(&rt, text), (kind, place), "{text:?}");
+    }
+    Ok(())
+}
+
+#[test]
 fn openings_of_expressions(rt: HostRuntime) -> Result<(), Fail> {
     let front = b"UPDATE t SET v = ";
     assert_eq!(rt; repeated(&rt, front, b"- ", 64, b"1")?, (0, 0));
@@ -277,6 +305,23 @@ fn canonical_orders(rt: HostRuntime) -> Result<(), Fail> {
             b"SELECT COUNT(*) AS `n`, SUM(`v`), MIN(`t`.`v`) AS `m`, MAX(`w`) FROM `t` AS `t` WHERE `a` = 1 FOR UPDATE",
         ),
         (b"select count(*) from t order by a", b""),
+    ];
+    for (text, expected) in cases {
+        assert!(rt; prints_as(&rt, text, expected)?, "{text:?}");
+    }
+    Ok(())
+}
+
+#[test]
+fn canonical_questions(rt: HostRuntime) -> Result<(), Fail> {
+    let cases: [(&[u8], &[u8]); 4] = [
+        (
+            b"Select  @@Version_Comment limit 01;",
+            b"SELECT @@version_comment",
+        ),
+        (b"select database ( )", b"SELECT DATABASE()"),
+        (b"show/* c */tables", b"SHOW TABLES"),
+        (b"Show Databases ;", b"SHOW DATABASES"),
     ];
     for (text, expected) in cases {
         assert!(rt; prints_as(&rt, text, expected)?, "{text:?}");

@@ -12,9 +12,7 @@ use crate::reading::limits::limit;
 use crate::reading::locks::locked;
 use crate::reading::names::{alias, column, table};
 use crate::reading::orders::order;
-use crate::statement::{
-    AggregateItem, Item, Select, SelectItems, Statement, Tab, TableStatement,
-};
+use crate::statement::{AggregateItem, Item, Select, SelectItems, Statement, Tab, TableStatement};
 use crate::token::{Fixed, Token};
 use list_types::Listed;
 use sql_values::Cond;
