@@ -44,7 +44,7 @@ pub use parsing::{MOST_LINK_OPENINGS, MOST_OPENINGS, parse, parse_link};
 pub use printing::{print, push_quoted};
 pub use statement::{
     Admin, AggregateItem, AggregateItems, Assignment, Assignments, Delete, Insert, Item, ItemList,
-    Limit, Names, Select, SelectItems, SortItem, SortList, Statement, Tab, TableStatement, Tuples,
-    Update,
+    JoinSelect, Limit, Names, Select, SelectItems, SortItem, SortList, Statement, Tab,
+    TableStatement, Tuples, Update,
 };
 pub use token::{Fixed, Token};

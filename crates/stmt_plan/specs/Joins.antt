@@ -1,6 +1,6 @@
 -- What a SELECT of two tables asks of them, and why it is refused: MySQL Reference Manual, "JOIN Clause".
 use Rattle.std.specs.Prelude.{◌≡◌, ℕ, ◌+◌, ◌<◌, ◌^◌, Bool, true, false, ◌&&◌, not, List, [], ◌∷◌, ◌++◌, Option, Some, None, length, map, unwrap_or, if◌then◌else◌}
-use Rattle.std.specs.List.{filter, list_all}
+use Rattle.std.specs.List.{filter, list_all, position}
 use Rattle.std.specs.Option.{option_map, option_map_or}
 use Rattle.sql_values.specs.declared.places.LockMode.TheVariants.{Shared}
 use Rattle.sql_values.specs.declared.table.Kind.TheVariants.{BigInt}
@@ -10,7 +10,7 @@ use Rattle.sql_values.specs.declared.tree.Cond.{Cond, Cond-F, out-Cond}
 use Rattle.sql_values.specs.declared.tree.Cond.TheOpen.{All}
 use Rattle.sql_values.specs.declared.tree.Cond.TheVariants as cond
 use Rattle.sql_values.specs.Checks.{first_column, is_ambiguous, is_unknown, cond_columns, cond_fits}
-use Rattle.sql_values.specs.Columns.{column_kind}
+use Rattle.sql_values.specs.Columns.{column_kind, columns_of, may_mean}
 use Rattle.sql_values.specs.KeySets.{AreKeys}
 use Rattle.part_rules.specs.declared.rule.Rule.{Rule}
 use Rattle.part_rules.specs.Pruned.{IsPruned}
@@ -21,7 +21,6 @@ use Rattle.sql_text.specs.declared.statement.SelectItems.TheVariants as items
 use Rattle.front_rows.specs.declared.aggregate.AggFun.{AggFun}
 use Rattle.front_rows.specs.declared.aggregate.Aggregate.{Aggregate}
 use Rattle.front_rows.specs.declared.order.Sort.{Sort}
-use Rattle.front_rows.specs.Joining.{column_place}
 use Rattle.front_rows.specs.Merging.{key_order}
 use Rattle.stmt_plan.specs.declared.fault.StmtFault.{StmtFault}
 use Rattle.stmt_plan.specs.declared.fault.StmtFault.TheVariants.{NoColumn, Ambiguous, TypeMismatch}
@@ -85,7 +84,7 @@ sent side cs = option_map unqualified (conjoined (filter (names_alone side) cs))
 -- THE ANSWER'S COLUMNS: those of the second table count on from those of the first
 
 abbrev pub place_among : List TableDef → ColumnName → ℕ
-place_among tables name = unwrap_or (column_place tables name) 0
+place_among tables name = unwrap_or (position (may_mean name) (columns_of tables)) 0
 
 abbrev pub of_column_among : List TableDef → AggFun → ColumnName → Aggregate
 of_column_among tables f name = record { fun = f; column = place_among tables name; kind = unwrap_or (column_kind tables name) BigInt }
