@@ -1,11 +1,14 @@
 pub mod Aggregated
 pub mod Bounds
 pub mod FirstRows
+pub mod Indexed
+pub mod Joined
 pub mod KeyLast
 pub mod KeyOrder
 pub mod OneList
 pub mod Numbers
 pub mod Orders
 pub mod Parts
+pub mod Places
 pub mod Shuffled
 pub mod Sorted

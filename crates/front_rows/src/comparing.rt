@@ -18,7 +18,7 @@ fn rank(value: Option<&Value>) -> u32
     }
 }
 
-fn compare_values(left: Option<&Value>, right: Option<&Value>) -> Ordering
+pub(crate) fn compare_values(left: Option<&Value>, right: Option<&Value>) -> Ordering
     ensures { result ≡ cell_cmp (cell_literal left.entry) (cell_literal right.entry) }
 {
     match (left, right) {

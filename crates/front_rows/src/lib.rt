@@ -10,13 +10,17 @@
 
 mod aggregate;
 mod aggregating;
+mod bounded;
 mod comparing;
+mod equalities;
 mod gathering;
+mod joining;
 pub mod laws;
 mod merges;
 mod order;
 
 pub use aggregate::{AggFun, Aggregate, Aggregates, CellRow};
 pub use aggregating::{is_part, merge_aggregates};
+pub use joining::join;
 pub use merges::{MOST_BYTES, MOST_ROWS, RowsFault, merge_rows};
 pub use order::{Answers, Order, Sort};

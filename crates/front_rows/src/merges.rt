@@ -40,7 +40,7 @@ impl From<AllocError> for RowsFault {
 }
 
 /// The rows in order; rows that are equal by it stay as they came. Runs that are in order already are found and merged.
-fn sorted(mut rows: Vec<Row>, order: &[Sort]) -> Result<Vec<Row>, AllocError>
+pub(crate) fn sorted(mut rows: Vec<Row>, order: &[Sort]) -> Result<Vec<Row>, AllocError>
     ensures { IfOk result (λ sorted. IsInOrder order.now rows.items sorted.items) }
 {
     rows.sort_by(|left, right| compare(order, left, right))?;
