@@ -1,13 +1,12 @@
 -- In rows that rise by a column, those that are equal to a value there stand together, as they came; and no others can join where a condition asks for that.
-use Rattle.std.proofs.Common.{◌≡◌, ℕ, suc, zero, ◌+◌, ◌<◌, ◌≤◌, Bool, true, false, not, ◌&&◌, cond, List, [], ◌∷◌, ◌++◌, filter, length, get_or, take, drop, map, replicate, leb, ltb, Some, refl, sym, ◌∙◌, ap, arith, inl, inr, add-one}
+use Rattle.std.proofs.Common.{◌≡◌, ℕ, suc, zero, ◌+◌, ◌<◌, Bool, true, false, not, ◌&&◌, cond, List, [], ◌∷◌, filter, length, get_or, take, drop, replicate, leb, ltb, Some, refl, sym, ◌∙◌, ap, arith, inl, inr}
 use Rattle.std.specs.Prelude.{slice_get}
 use Rattle.std.specs.List.Sorted.{IsNonDecreasingBy, IsPartitionedBy, IsPartitionPoint, IsSortedBy, ties}
+use Rattle.std.specs.Option.{option_map_or}
 use Rattle.std.specs.Ordering.{is_eq, is_gt, is_lt, ordering_index, ordering_reverse, ordering_then}
 use Rattle.std.specs.declared.cmp.Ordering.{Ordering}
 use Rattle.std.specs.declared.cmp.Ordering.TheVariants.{Less, Equal, Greater}
-use Rattle.std.proofs.lemmas.Bool.{cases_Bool, false_from_ne_true, false≢true}
-
-use Rattle.std.proofs.lemmas.List.{get_or-take, length-take}
+use Rattle.std.proofs.lemmas.Bool.{cases_Bool}
 use Rattle.std.proofs.lemmas.List.Elements.{filter_agree}
 use Rattle.std.proofs.lemmas.List.Sorted.{IsPartitionedBy-leb, IsPartitionedBy-ltb, searchable_from_sorted}
 use Rattle.sql_values.specs.declared.literal.Literal.{Literal}
@@ -42,7 +41,7 @@ abbrev Point : {X : Type 0} → (X → Bool) → List X → ℕ → Type 0
 Point p xs i = IsPartitionPoint (λ y. p y ≡ true) (λ y. p y ≡ false) xs i
 
 point_tail : {X : Type 0} (p : X → Bool) (x : X) (xs : List X) (i : ℕ) → Point p (x ∷ xs) (suc i) → Point p xs i
-point_tail p x xs i point = (λ k d low high. point.0 (suc k) d (omega arith) (omega arith), λ k d low high. point.1 (suc k) d (omega arith) (omega arith))
+point_tail p x xs i point = ((λ k d low high. point.0 (suc k) d (omega arith) (omega arith)), (λ k d low high. point.1 (suc k) d (omega arith) (omega arith)))
 
 -- what lies in front of the point is what passes
 pub front_is : {X : Type 0} (p : X → Bool) (xs : List X) (i : ℕ) → Point p xs i → take i xs ≡ filter p xs
@@ -70,13 +69,6 @@ filter_twice p q (x ∷ xs) = elim (cases_Bool (p x)) [
     | inr other ↦ rw other (filter_twice p q xs)
   ]
 
-pub take_sorted : {X : Type 0} (lt : X → X → Bool) (n : ℕ) (xs : List X) → IsSortedBy lt xs → IsSortedBy lt (take n xs)
-take_sorted lt n xs up k d low high =
-    let more : k + 1 < n = omega (arith, length-take n xs) in
-    let here : k < n = omega arith in
-    let within : k + 1 < length xs = omega (arith, length-take n xs) in
-    rw (get_or-take n xs (k + 1) d more, get_or-take n xs k d here) (up k d low within)
-
 -- ROWS THAT RISE BY A COLUMN
 
 alone_is : (o : Ordering) → is_lt (ordering_then o Equal) ≡ is_lt o
@@ -85,25 +77,37 @@ alone_is Equal = refl
 alone_is Greater = refl
 
 searchable : (column : ℕ) (rows : List Row) (l : Literal) → IsSortedBy (before (key_order column)) rows → IsNonDecreasingBy (λ (row : Row). ordering_index (cell_cmp (cell column row) l)) rows
-searchable column rows l up = searchable_from_sorted cell_total (cell column) rows l (λ k d low high. sym (alone_is _) ∙ up k d low high)
+searchable column rows l up =
+    searchable_from_sorted cell_total (cell column) rows l (λ k d low high. sym (alone_is (cell_cmp (cell column (get_or rows (k + 1) d)) (cell column (get_or rows k d)))) ∙ up k d low high)
 
 up_is : (o : Ordering) → not (is_gt o) ≡ leb (ordering_index o) 1
 up_is Less = refl
 up_is Equal = refl
 up_is Greater = refl
 
-below_is : (o : Ordering) → is_lt o ≡ ltb (ordering_index o) 1
-below_is Less = refl
-below_is Equal = refl
-below_is Greater = refl
+under_is : (o : Ordering) → is_lt o ≡ ltb (ordering_index o) 1
+under_is Less = refl
+under_is Equal = refl
+under_is Greater = refl
 
-pub parted_up : (column : ℕ) (rows : List Row) (l : Literal) → IsSortedBy (before (key_order column)) rows → IsPartitionedBy (λ (row : Row). not (is_gt (cell_cmp (cell column row) l))) rows
+-- not above a value, and below it
+abbrev pub is_up_to : ℕ → Literal → Row → Bool
+is_up_to column l row = not (is_gt (cell_cmp (cell column row) l))
+
+abbrev pub is_under : ℕ → Literal → Row → Bool
+is_under column l row = is_lt (cell_cmp (cell column row) l)
+
+pub parted_up : (column : ℕ) (rows : List Row) (l : Literal) → IsSortedBy (before (key_order column)) rows → IsPartitionedBy (is_up_to column l) rows
 parted_up column rows l up i j d le within pass =
-    up_is _ ∙ IsPartitionedBy-leb (λ (row : Row). ordering_index (cell_cmp (cell column row) l)) rows 1 (searchable column rows l up) i j d le within (sym (up_is _) ∙ pass)
+    up_is (cell_cmp (cell column (get_or rows i d)) l)
+    ∙ IsPartitionedBy-leb (λ (row : Row). ordering_index (cell_cmp (cell column row) l)) rows 1 (searchable column rows l up) i j d le within
+    (sym (up_is (cell_cmp (cell column (get_or rows j d)) l)) ∙ pass)
 
-pub parted_below : (column : ℕ) (rows : List Row) (l : Literal) → IsSortedBy (before (key_order column)) rows → IsPartitionedBy (λ (row : Row). is_lt (cell_cmp (cell column row) l)) rows
-parted_below column rows l up i j d le within pass =
-    below_is _ ∙ IsPartitionedBy-ltb (λ (row : Row). ordering_index (cell_cmp (cell column row) l)) rows 1 (searchable column rows l up) i j d le within (sym (below_is _) ∙ pass)
+pub parted_under : (column : ℕ) (rows : List Row) (l : Literal) → IsSortedBy (before (key_order column)) rows → IsPartitionedBy (is_under column l) rows
+parted_under column rows l up i j d le within pass =
+    under_is (cell_cmp (cell column (get_or rows i d)) l)
+    ∙ IsPartitionedBy-ltb (λ (row : Row). ordering_index (cell_cmp (cell column row) l)) rows 1 (searchable column rows l up) i j d le within
+    (sym (under_is (cell_cmp (cell column (get_or rows j d)) l)) ∙ pass)
 
 -- EQUALITY
 
@@ -132,11 +136,11 @@ both_is Greater = refl
 
 -- neither above the value nor below it
 pub middle_is : (column : ℕ) (v : Value) (rows : List Row) →
-    filter (λ (row : Row). not (is_lt (cell_cmp (cell column row) (literal_of v)))) (filter (λ (row : Row). not (is_gt (cell_cmp (cell column row) (literal_of v)))) rows)
-    ≡ filter (equal_to column (literal_of v)) rows
+    filter (λ (row : Row). not (is_under column (literal_of v) row)) (filter (is_up_to column (literal_of v)) rows) ≡ filter (equal_to column (literal_of v)) rows
 middle_is column v rows =
-    filter_twice (λ (row : Row). not (is_gt (cell_cmp (cell column row) (literal_of v)))) (λ (row : Row). not (is_lt (cell_cmp (cell column row) (literal_of v)))) rows
-    ∙ filter_agree _ (equal_to column (literal_of v)) (λ (row : Row). both_is (cell_cmp (cell column row) (literal_of v)) ∙ sym (equal_is column v row)) rows
+    filter_twice (is_up_to column (literal_of v)) (λ (row : Row). not (is_under column (literal_of v) row)) rows
+    ∙ filter_agree (λ (row : Row). is_up_to column (literal_of v) row && not (is_under column (literal_of v) row)) (equal_to column (literal_of v))
+    (λ (row : Row). both_is (cell_cmp (cell column row) (literal_of v)) ∙ sym (equal_is column v row)) rows
 
 pub null_equal : (m : Literal) → compares comparison.Equal Null m ≡ false
 null_equal Null = refl
@@ -154,7 +158,7 @@ get_with zero v = refl
 get_with (suc column) v = get_with column v
 
 cell_with : (column : ℕ) (v : Value) → cell column (row_with column v) ≡ literal_of v
-cell_with column v = rw (get_with column v) refl
+cell_with column v = ap (λ o. option_map_or literal_of o Null) (get_with column v)
 
 tied_by : (o : Ordering) → (not (is_lt (ordering_then (ordering_reverse o) Equal)) && not (is_lt (ordering_then o Equal))) ≡ is_eq o
 tied_by Less = refl
@@ -162,7 +166,9 @@ tied_by Equal = refl
 tied_by Greater = refl
 
 ties_is : (column : ℕ) (z row : Row) → ties (before (key_order column)) z row ≡ is_eq (cell_cmp (cell column row) (cell column z))
-ties_is column z row = rw (cell_total.antisymm (cell column z) (cell column row)) (tied_by (cell_cmp (cell column row) (cell column z)))
+ties_is column z row =
+    ap (λ (o : Ordering). not (is_lt (ordering_then o Equal)) && not (is_lt (ordering_then (cell_cmp (cell column row) (cell column z)) Equal))) (cell_total.antisymm (cell column z) (cell column row))
+    ∙ tied_by (cell_cmp (cell column row) (cell column z))
 
 equal_tied : (column : ℕ) (v : Value) (row : Row) → equal_to column (literal_of v) row ≡ ties (before (key_order column)) (row_with column v) row
 equal_tied column v row =

@@ -25,9 +25,13 @@ past m n k over = grind (arith, nat_tests)
 
 -- rows that are too large stay so with more
 pub large_more : (rows more : List Row) → is_too_large rows ≡ true → is_too_large (rows ++ more) ≡ true
-large_more rows more large = elim (or_cases _ _ large) [
-    | inl many ↦ or_left _ _ (rw (length-append rows more) (past (length rows) (length more) 100000 many))
-    | inr long ↦ or_right _ _ (rw (sum_by-append row_size rows more) (past (sum_by row_size rows) (sum_by row_size more) (64 * (1024 * 1024)) long))
+large_more rows more large = elim (or_cases (nat_lt 100000 (length rows)) (nat_lt (64 * (1024 * 1024)) (sum_by row_size rows)) large) [
+    | inl many ↦
+        let still : nat_lt 100000 (length (rows ++ more)) ≡ true = rw (length-append rows more) (past (length rows) (length more) 100000 many) in
+        or_left (nat_lt 100000 (length (rows ++ more))) (nat_lt (64 * (1024 * 1024)) (sum_by row_size (rows ++ more))) still
+    | inr long ↦
+        let still : nat_lt (64 * (1024 * 1024)) (sum_by row_size (rows ++ more)) ≡ true = rw (sum_by-append row_size rows more) (past (sum_by row_size rows) (sum_by row_size more) (64 * (1024 * 1024)) long) in
+        or_right (nat_lt 100000 (length (rows ++ more))) (nat_lt (64 * (1024 * 1024)) (sum_by row_size (rows ++ more))) still
   ]
 
 -- LEFT ROWS ONE AFTER THE OTHER

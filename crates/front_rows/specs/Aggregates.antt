@@ -1,6 +1,7 @@
 -- What aggregates give of rows, and of what they give of parts of these: MySQL Reference Manual, "Aggregate Function Descriptions".
 use Rattle.std.specs.Prelude.{ℕ, ◌+◌, ℤ, pos, negsuc, ◌+ℤ◌, Bool, true, false, ◌&&◌, List, [], ◌∷◌, None, map, length, get_or, nat_le, if◌then◌else◌}
 use Rattle.std.specs.Cmp.Lexicographic.{pointwise}
+use Rattle.std.specs.List.{list_all}
 use Rattle.std.specs.Option.{option_map_or}
 use Rattle.std.specs.Ordering.{is_lt}
 use Rattle.sql_values.specs.declared.literal.Literal.{Literal}
@@ -161,3 +162,17 @@ fits_from place (a ∷ aggregates) rows = fits_sums a.fun (results_at a.kind pla
 -- counts and sums of all parts stay within 128 bits, as those of every table do
 abbrev pub can_merge : List Aggregate → List LinkAnswer → Bool
 can_merge aggregates parts = fits_from 0 aggregates (all_cells parts)
+
+-- sums of values, one after the other; what isn't summed has none
+abbrev pub fits_values : AggFun → List Literal → Bool
+fits_values Count values = true
+fits_values Sum values = sums_fit (pos 0) (map number_in values)
+fits_values Min values = true
+fits_values Max values = true
+
+abbrev pub fits_over : List (List Value) → Aggregate → Bool
+fits_over rows a = fits_values a.fun (map (cell a.column) rows)
+
+-- sums over the rows stay within 128 bits, as those of values of 64 bits do
+abbrev pub can_aggregate : List Aggregate → List (List Value) → Bool
+can_aggregate aggregates rows = list_all (fits_over rows) aggregates

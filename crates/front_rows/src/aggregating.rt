@@ -217,7 +217,7 @@ fn added(left: Literal, right: Literal) -> Option<Literal>
 }
 
 /// The sum of the first result and all others; None where one of the sums on the way is beyond 128 bits.
-fn sum(first: Literal, results: Vec<Literal>) -> Option<Literal>
+pub(crate) fn sum(first: Literal, results: Vec<Literal>) -> Option<Literal>
     ensures some { IfSome result (λ total. (sums_fit (number_in first) (map number_in results.items) ≡ true) × (total ≡ both plus first (all_of plus results.items))) }
     ensures none { IfNone result (sums_fit (number_in first) (map number_in results.items) ≡ false) }
 {
@@ -271,7 +271,7 @@ fn better(least: bool, left: Literal, right: Literal) -> Literal
 }
 
 /// The least of the results, or the greatest; NULL gives way.
-fn extreme(least: bool, results: Vec<Literal>) -> Literal
+pub(crate) fn extreme(least: bool, results: Vec<Literal>) -> Literal
     ensures { result ≡ all_of (if least then lesser else greater) results.items }
 {
     let mut found = Literal::Null;
@@ -295,7 +295,7 @@ fn together(fun: AggFun, results: Vec<Literal>) -> Option<Literal>
 }
 
 /// A literal as a cell has it.
-fn cell(alloc: Global, literal: Literal) -> Result<Cell, AllocError>
+pub(crate) fn cell(alloc: Global, literal: Literal) -> Result<Cell, AllocError>
     ensures { IfOk result (λ cell. cell ≡ text_in_cell literal) }
 {
     match literal {

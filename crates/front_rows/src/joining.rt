@@ -141,7 +141,7 @@ fn join_equal(
     cond: Option<&Cond>,
     tables: &TableDefs,
 ) -> Result<Rows, RowsFault>
-    requires equal { AsksForEqual (joins_on tables.now (cond_of cond.entry)) columns }
+    requires equal { AsksForEqual (joins_on tables.now (cond_of cond)) columns }
     requires wide { list_all (has_width columns.width) left.now ≡ true }
     ensures rows { IfOk result (λ rows. rows ≡ join_of tables.now (cond_of cond.entry) left.now right.items) }
     ensures within { IfOk result (λ rows. too_large rows ≡ false) }

@@ -18,9 +18,11 @@ mod joining;
 pub mod laws;
 mod merges;
 mod order;
+mod row_aggregates;
 
 pub use aggregate::{AggFun, Aggregate, Aggregates, CellRow};
 pub use aggregating::{is_part, merge_aggregates};
 pub use joining::join;
 pub use merges::{MOST_BYTES, MOST_ROWS, RowsFault, merge_rows};
 pub use order::{Answers, Order, Sort};
+pub use row_aggregates::aggregate_rows;

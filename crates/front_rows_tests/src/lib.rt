@@ -4,4 +4,8 @@
 #[cfg(test)]
 mod aggregate_tests;
 #[cfg(test)]
+mod join_tests;
+#[cfg(test)]
+mod row_aggregate_tests;
+#[cfg(test)]
 mod tests;
