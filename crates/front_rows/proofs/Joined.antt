@@ -1,8 +1,8 @@
 -- Joins left row by left row, and what they leave out.
-use Rattle.std.proofs.Common.{◌≡◌, ℕ, ◌+◌, ◌*◌, ◌<◌, Bool, true, false, ◌||◌, cond, List, [], ◌∷◌, ◌++◌, filter, length, map, nat_lt, sum_by, Option, refl, sym, ◌∙◌, ap, arith, inl, inr}
+use Rattle.std.proofs.Common.{◌≡◌, ℕ, ◌+◌, ◌*◌, ◌<◌, Bool, true, false, ◌||◌, cond, List, [], ◌∷◌, ◌++◌, append_assoc, drop, filter, get_or, length, map, nat_lt, sum_by, Option, refl, sym, ◌∙◌, ap, arith, inl, inr}
 use Rattle.std.proofs.lemmas.Bool.{cases_Bool, false_from_ne_true, false≢true, or_cases, or_left, or_right}
 use Rattle.std.proofs.lemmas.Bool.Decides.{nat_tests}
-use Rattle.std.proofs.lemmas.List.{length-append}
+use Rattle.std.proofs.lemmas.List.{drop_more, length-append}
 use Rattle.std.proofs.lemmas.List.Elements.{filter-append}
 use Rattle.std.proofs.lemmas.List.Sums.{sum_by-append}
 use Rattle.sql_values.specs.declared.table.TableDef.{TableDef}
@@ -13,7 +13,8 @@ use Rattle.front_rows.specs.declared.equalities.Equality.{Equality}
 use Rattle.front_rows.specs.Comparing.{cell}
 use Rattle.front_rows.specs.Indexing.{AsksForEqual, equal_to, joined_to}
 use Rattle.front_rows.specs.Joining.{joined, joins_on, pairs, pairs_of}
-use Rattle.front_rows.specs.Merging.{is_too_large}
+use Rattle.front_rows.specs.Merging.{IsInOrder, is_too_large, key_order}
+use Rattle.front_rows.proofs.Indexed.{equal_stays}
 
 abbrev Row : Type 0
 Row = List Value
@@ -34,11 +35,38 @@ large_more rows more large = elim (or_cases (nat_lt 100000 (length rows)) (nat_l
         or_right (nat_lt 100000 (length (rows ++ more))) (nat_lt (64 * (1024 * 1024)) (sum_by row_size (rows ++ more))) still
   ]
 
+-- RIGHT ROWS ONE AFTER THE OTHER
+
+pair_step : (tables : List TableDef) (on : Option Cond) (l r row : Row) (rest : List Row) (b : Bool) → row ≡ l ++ r → joins_on tables on row ≡ b →
+    joined_to tables on (r ∷ rest) l ≡ cond b (row ∷ joined_to tables on rest l) (joined_to tables on rest l)
+pair_step tables on l r row rest b is holds =
+    ap (λ (x : Row). cond (joins_on tables on x) (x ∷ joined_to tables on rest l) (joined_to tables on rest l)) (sym is)
+    ∙ ap (λ (t : Bool). cond t (row ∷ joined_to tables on rest l) (joined_to tables on rest l)) holds
+
+module _ (tables : List TableDef) (on : Option Cond) (l : Row) (rights : List Row) (i : ℕ) (r row : Row) (found whole : List Row)
+  (below : i < length rights) (here : r ≡ get_or rights i r) (is : row ≡ l ++ r) (so_far : found ++ joined_to tables on (drop i rights) l ≡ whole) where
+  next_right : drop i rights ≡ r ∷ drop (i + 1) rights
+  next_right = drop_more rights i r below ∙ ap (λ (x : Row). x ∷ drop (i + 1) rights) (sym here)
+
+  step : (b : Bool) → joins_on tables on row ≡ b → found ++ cond b (row ∷ joined_to tables on (drop (i + 1) rights) l) (joined_to tables on (drop (i + 1) rights) l) ≡ whole
+  step b holds =
+      ap (λ (rows : List Row). found ++ rows) (sym (pair_step tables on l r row (drop (i + 1) rights) b is holds))
+      ∙ ap (λ (rows : List Row). found ++ joined_to tables on rows l) (sym next_right)
+      ∙ so_far
+
+  pub pair_passed : joins_on tables on row ≡ false → found ++ joined_to tables on (drop (i + 1) rights) l ≡ whole
+  pair_passed fails = step false fails
+
+  pub pair_added : joins_on tables on row ≡ true → (found ++ row ∷ []) ++ joined_to tables on (drop (i + 1) rights) l ≡ whole
+  pair_added holds = append_assoc found (row ∷ []) (joined_to tables on (drop (i + 1) rights) l) ∙ step true holds
+
+  pub pair_over : joins_on tables on row ≡ true → is_too_large (found ++ row ∷ []) ≡ true → is_too_large whole ≡ true
+  pair_over holds large = sym (ap is_too_large (pair_added holds)) ∙ large_more (found ++ row ∷ []) (joined_to tables on (drop (i + 1) rights) l) large
+
 -- LEFT ROWS ONE AFTER THE OTHER
 
-pub joined_step : (tables : List TableDef) (cond : Option Cond) (l : Row) (left right : List Row) →
-    joined tables cond (l ∷ left) right ≡ joined_to tables cond right l ++ joined tables cond left right
-joined_step tables cond l left right = filter-append (joins_on tables cond) (pairs_of right l) (pairs left right)
+pub joined_step : (tables : List TableDef) (on : Option Cond) (l : Row) (left right : List Row) → joined tables on (l ∷ left) right ≡ joined_to tables on right l ++ joined tables on left right
+joined_step tables on l left right = filter-append (joins_on tables on) (pairs_of right l) (pairs left right)
 
 -- WHAT AN INDEX LEAVES OUT
 
@@ -52,8 +80,30 @@ only_equal l test equal asks (r ∷ right) = elim (cases_Bool (equal r)) [
         rw (apart, fails) (only_equal l test equal asks right)
   ]
 
-pub index_is : (tables : List TableDef) (cond : Option Cond) (columns : Equality) (l : Row) (right : List Row) →
-    AsksForEqual (joins_on tables cond) columns → length l ≡ columns.width →
-    joined_to tables cond (filter (equal_to columns.right (cell columns.left l)) right) l ≡ joined_to tables cond right l
-index_is tables cond columns l right asks wide =
-    only_equal l (joins_on tables cond) (equal_to columns.right (cell columns.left l)) (λ (r : Row) pass. asks l r wide pass) right
+index_is : (tables : List TableDef) (on : Option Cond) (columns : Equality) (l : Row) (right : List Row) → AsksForEqual (joins_on tables on) columns → length l ≡ columns.width →
+    joined_to tables on (filter (equal_to columns.right (cell columns.left l)) right) l ≡ joined_to tables on right l
+index_is tables on columns l right asks wide =
+    only_equal l (joins_on tables on) (equal_to columns.right (cell columns.left l)) (λ (r : Row) pass. asks l r wide pass) right
+
+pub equal_more : (tables : List TableDef) (on : Option Cond) (columns : Equality) (right sorted equal : List Row) (l : Row) →
+    AsksForEqual (joins_on tables on) columns → length l ≡ columns.width → IsInOrder (key_order columns.right) right sorted →
+    equal ≡ filter (equal_to columns.right (cell columns.left l)) sorted → joined_to tables on equal l ≡ joined_to tables on right l
+equal_more tables on columns right sorted equal l asks wide order is =
+    ap (λ (rows : List Row). joined_to tables on rows l) (is ∙ equal_stays columns.right right sorted (cell columns.left l) order)
+    ∙ index_is tables on columns l right asks wide
+
+module _ (tables : List TableDef) (on : Option Cond) (left right : List Row) (i : ℕ) (l : Row) (found more whole : List Row)
+  (below : i < length left) (here : l ≡ get_or left i l) (is : more ≡ joined_to tables on right l) (so_far : found ++ joined tables on (drop i left) right ≡ whole) where
+  next_left : drop i left ≡ l ∷ drop (i + 1) left
+  next_left = drop_more left i l below ∙ ap (λ (x : Row). x ∷ drop (i + 1) left) (sym here)
+
+  pub row_added : (found ++ more) ++ joined tables on (drop (i + 1) left) right ≡ whole
+  row_added =
+      append_assoc found more (joined tables on (drop (i + 1) left) right)
+      ∙ ap (λ (rows : List Row). found ++ (rows ++ joined tables on (drop (i + 1) left) right)) is
+      ∙ ap (λ (rows : List Row). found ++ rows) (sym (joined_step tables on l (drop (i + 1) left) right))
+      ∙ ap (λ (rows : List Row). found ++ joined tables on rows right) (sym next_left)
+      ∙ so_far
+
+  pub row_over : is_too_large (found ++ more) ≡ true → is_too_large whole ≡ true
+  row_over large = sym (ap is_too_large row_added) ∙ large_more (found ++ more) (joined tables on (drop (i + 1) left) right) large
