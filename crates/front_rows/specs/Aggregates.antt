@@ -1,6 +1,7 @@
 -- What aggregates give of rows, and of what they give of parts of these: MySQL Reference Manual, "Aggregate Function Descriptions".
 use Rattle.std.specs.Prelude.{ℕ, ◌+◌, ℤ, pos, negsuc, ◌+ℤ◌, Bool, true, false, ◌&&◌, List, [], ◌∷◌, None, map, length, get_or, nat_le, if◌then◌else◌}
 use Rattle.std.specs.Cmp.Lexicographic.{pointwise}
+use Rattle.std.specs.List.{list_all}
 use Rattle.std.specs.Option.{option_map_or}
 use Rattle.std.specs.Ordering.{is_lt}
 use Rattle.sql_values.specs.declared.literal.Literal.{Literal}
@@ -161,3 +162,16 @@ fits_from place (a ∷ aggregates) rows = fits_sums a.fun (results_at a.kind pla
 -- counts and sums of all parts stay within 128 bits, as those of every table do
 abbrev pub can_merge : List Aggregate → List LinkAnswer → Bool
 can_merge aggregates parts = fits_from 0 aggregates (all_cells parts)
+
+-- OF ROWS
+
+-- the sums of the values of a column stay within 128 bits; a count has them always
+abbrev pub counts_within : AggFun → List Literal → Bool
+counts_within Count values = true
+counts_within Sum values = sums_fit (pos 0) (map number_in values)
+counts_within Min values = true
+counts_within Max values = true
+
+-- each sum over the rows stays within 128 bits
+abbrev pub can_count : List Aggregate → List (List Value) → Bool
+can_count aggregates rows = list_all (λ a. counts_within a.fun (map (cell a.column) rows)) aggregates

@@ -12,11 +12,13 @@ mod aggregate;
 mod aggregating;
 mod comparing;
 mod gathering;
+mod joining;
 pub mod laws;
 mod merges;
 mod order;
 
 pub use aggregate::{AggFun, Aggregate, Aggregates, CellRow};
 pub use aggregating::{is_part, merge_aggregates};
+pub use joining::{aggregate_rows, join};
 pub use merges::{MOST_BYTES, MOST_ROWS, RowsFault, merge_rows};
 pub use order::{Answers, Order, Sort};

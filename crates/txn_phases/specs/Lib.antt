@@ -1,4 +1,5 @@
 pub mod Changes
 pub mod Deeds
+pub mod Joins
 pub mod Phases
 pub mod Weights

@@ -26,6 +26,7 @@ use Rattle.txn_phases.specs.declared.deed.Outcome.TheVariants as outcome
 use Rattle.txn_phases.specs.declared.deed.PlacedRow.{PlacedRow}
 use Rattle.txn_phases.specs.declared.deed.Refusal.{Refusal}
 use Rattle.txn_phases.specs.declared.job.Job.{Job}
+use Rattle.txn_phases.specs.declared.job.SecondScan.{SecondScan}
 use Rattle.txn_phases.specs.declared.job.TableScan.{TableScan}
 use Rattle.txn_phases.specs.declared.owed.Owed.{Owed}
 use Rattle.txn_phases.specs.declared.phase.Branch.{Branch}
@@ -45,10 +46,31 @@ use Rattle.txn_phases.specs.declared.requests.Word.TheVariants as word
 use Rattle.txn_phases.specs.declared.writing.Writing.{Writing}
 use Rattle.txn_phases.specs.declared.writing.Writing.TheVariants as writing
 use Rattle.txn_phases.specs.Deeds.{merged_within, found_within, cells_within, taken_key, news_in, writes_too_much, placed_keys, changes_of, keys_in, deletes_too_much}
+use Rattle.txn_phases.specs.Joins.{join_told, sided, sides_counting}
 
 -- a statement that was not begun yet
 abbrev pub new_job : List Branch → List Target → TableScan → Deed → Job
-new_job branches targets scan deed = record { branches = branches; targets = targets; scan = scan; deed = deed; phase = phase.Starting; asked = []; heard = 0; refused = None; found = [] }
+new_job branches targets scan deed = record { branches = branches; targets = targets; scan = scan; second = None; deed = deed; phase = phase.Starting; asked = []; heard = 0; refused = None; found = [] }
+
+-- the same of two tables
+abbrev pub new_join : List Branch → List Target → TableScan → SecondScan → Deed → Job
+new_join branches targets scan second deed = record { branches = branches; targets = targets; scan = scan; second = Some second; deed = deed; phase = phase.Starting; asked = []; heard = 0; refused = None; found = [] }
+
+-- WHICH TABLE A LINK IS OF
+
+-- the scan of the left table, or that of the right one
+abbrev pub scan_on : TableScan → SecondScan → Bool → TableScan
+scan_on scan second side = if side then second.scan else scan
+
+-- the scan by which the link at that place is asked
+abbrev pub scan_at : TableScan → Option SecondScan → ℕ → TableScan
+scan_at scan None place = scan
+scan_at scan (Some second) place = scan_on scan second (get_or second.sides place false)
+
+-- the links that are of the right table
+abbrev pub sides_of : Option SecondScan → List Bool
+sides_of None = []
+sides_of (Some second) = second.sides
 
 -- WHICH ANSWERS FIT
 
@@ -96,9 +118,13 @@ fits_scan _ kinds a = is_rows kinds a
 abbrev pub has_form : Phase → Deed → List Kind → LinkAnswer → Bool
 has_form p d kinds a = if is_scanning p then fits_scan d kinds a else is_done a
 
+-- the kinds of the columns that the link at that place has
+abbrev pub kinds_at : Job → ℕ → List Kind
+kinds_at job place = (scan_at job.scan job.second place).kinds
+
 -- an answer is due, and this one has its form
 abbrev pub awaits : Job → LinkAnswer → Bool
-awaits job a = nat_lt job.heard (length job.asked) && has_form job.phase job.deed job.scan.kinds a
+awaits job a = nat_lt job.heard (length job.asked) && has_form job.phase job.deed (kinds_at job job.heard) a
 
 -- the server whose answer is read next, where one is due
 abbrev pub awaited : Job → Option ℕ
@@ -134,6 +160,12 @@ scan_of scan t =
 abbrev pub scans_of : TableScan → List Target → List Ask
 scans_of scan targets = to_each (λ (t : Target). t.server) (scan_of scan) targets
 
+-- each link by the scan of its table
+abbrev pub scans_by : TableScan → Option SecondScan → List Target → List Ask
+scans_by scan None targets = scans_of scan targets
+scans_by scan (Some second) targets =
+    to_each (λ (p : Bool × Target). p.1.server) (λ (p : Bool × Target). scan_of (scan_on scan second p.0) p.1) (sided second.sides targets)
+
 abbrev pub put_of : Target → List (List Value) → List Ask
 put_of t [] = []
 put_of t (row ∷ rows) = record { server = t.server; request = request.Put t.remote (row ∷ rows) } ∷ []
@@ -161,7 +193,7 @@ servers_of asks = map (λ (a : Ask). a.server) asks
 
 -- a new phase: nothing of it was answered yet
 abbrev pub entering : Job → Phase → List ℕ → Job
-entering job p asked = record { branches = job.branches; targets = job.targets; scan = job.scan; deed = job.deed; phase = p; asked = asked; heard = 0; refused = None; found = [] }
+entering job p asked = record { branches = job.branches; targets = job.targets; scan = job.scan; second = job.second; deed = job.deed; phase = p; asked = asked; heard = 0; refused = None; found = [] }
 
 abbrev pub asking : Job → Phase → List Ask → Job × Progress
 asking job p asks = (entering job p (servers_of asks), Asks asks)
@@ -241,6 +273,7 @@ concluded_by job (deed.Aggregate aggregates) = tells job (option_map outcome.Cel
 concluded_by job (deed.Insert news) = writes job (inserting job.targets job.scan.place job.found news)
 concluded_by job (deed.Update changing) = writes job (updating job.targets changing (found_within job.scan.place job.found))
 concluded_by job (deed.Delete rule) = writes job (deleting job.targets job.scan rule (found_within job.scan.place job.found))
+concluded_by job (deed.Join join) = tells job (join_told join (sides_counting (sides_of job.second) job.targets) job.found)
 
 abbrev pub concluded : Job → Job × Progress
 concluded job = concluded_by job job.deed
@@ -253,7 +286,7 @@ decided job o = decides job o (to_branches word.Commit (begun_of job.branches))
 
 -- what follows a phase in which nothing was refused
 abbrev pub follows : Phase → Job → Job × Progress
-follows phase.Starting job = asking job phase.Scanning (scans_of job.scan job.targets)
+follows phase.Starting job = asking job phase.Scanning (scans_by job.scan job.second job.targets)
 follows phase.Scanning job = concluded job
 follows (phase.Putting o) job = ends job o
 follows (phase.Ending o) job = asking job (phase.Preparing o) (to_branches word.Prepare (begun_of job.branches))
@@ -298,14 +331,14 @@ abbrev pub server_at : List ℕ → ℕ → ℕ
 server_at asked place = get_or asked place 0
 
 abbrev pub with_branches : Job → List Branch → Job
-with_branches job branches = record { branches = branches; targets = job.targets; scan = job.scan; deed = job.deed; phase = job.phase; asked = job.asked; heard = job.heard; refused = job.refused; found = job.found }
+with_branches job branches = record { branches = branches; targets = job.targets; scan = job.scan; second = job.second; deed = job.deed; phase = job.phase; asked = job.asked; heard = job.heard; refused = job.refused; found = job.found }
 
 abbrev pub with_found : Job → List LinkAnswer → Job
-with_found job more = record { branches = job.branches; targets = job.targets; scan = job.scan; deed = job.deed; phase = job.phase; asked = job.asked; heard = job.heard; refused = job.refused; found = job.found ++ more }
+with_found job more = record { branches = job.branches; targets = job.targets; scan = job.scan; second = job.second; deed = job.deed; phase = job.phase; asked = job.asked; heard = job.heard; refused = job.refused; found = job.found ++ more }
 
 -- a phase's first refusal is kept
 abbrev pub with_refusal : Job → Refusal → Job
-with_refusal job refusal = record { branches = job.branches; targets = job.targets; scan = job.scan; deed = job.deed; phase = job.phase; asked = job.asked; heard = job.heard; refused = option_or job.refused (Some refusal); found = job.found }
+with_refusal job refusal = record { branches = job.branches; targets = job.targets; scan = job.scan; second = job.second; deed = job.deed; phase = job.phase; asked = job.asked; heard = job.heard; refused = option_or job.refused (Some refusal); found = job.found }
 
 abbrev pub found_if : Bool → LinkAnswer → List LinkAnswer
 found_if true a = a ∷ []
@@ -319,7 +352,7 @@ keeps server counts (answer.Refused number message) job = with_refusal job (reco
 keeps server counts _ job = job
 
 abbrev pub hearing : Job → Job
-hearing job = record { branches = job.branches; targets = job.targets; scan = job.scan; deed = job.deed; phase = job.phase; asked = job.asked; heard = job.heard + 1; refused = job.refused; found = job.found }
+hearing job = record { branches = job.branches; targets = job.targets; scan = job.scan; second = job.second; deed = job.deed; phase = job.phase; asked = job.asked; heard = job.heard + 1; refused = job.refused; found = job.found }
 
 -- the job with what the answer says
 abbrev pub noted : Job → LinkAnswer → Job

@@ -9,7 +9,7 @@ ghost use Rattle.sql_values.specs.Storing.{row_size};
 ghost use Rattle.txn_phases.specs.declared.deed.PlacedRow.{PlacedRow};
 
 use crate::partitions::key_of;
-use crate::{Changing, Placing};
+use crate::{Changing, JoinDeed, Placing};
 use front_rows::{Aggregates, CellRow, Order};
 use list_types::{Listed, Text};
 use sql_text::LinkAnswer;
@@ -46,6 +46,8 @@ pub enum Deed {
     Update(Changing),
     /// They go, by their keys.
     Delete(Placing),
+    /// They are those of two tables, and are joined.
+    Join(JoinDeed),
 }
 
 /// A backend's refusal.
@@ -73,7 +75,8 @@ pub enum Outcome {
     Duplicate(i64),
     /// This row can't be changed as the statement says. Nothing was written.
     RowRefused(RowFault),
-    /// More than 100,000 rows were found, or more than 64 MiB of them, or a sum is beyond 128 bits. Nothing was written.
+    /// More than 100,000 rows were found, or more than 64 MiB of them, or a sum is beyond 128 bits. Of a join this may be the rows of a table, or its own before
+    /// they are cut. Nothing was written.
     AnswerLimit,
     /// More than 10,000 rows would be written at a server, or more than 4 MiB of them. Nothing was written.
     WriteSetLimit,

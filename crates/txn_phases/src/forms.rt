@@ -93,9 +93,8 @@ pub(crate) fn fits_scan(deed: &Deed, kinds: &[Kind], answer: &LinkAnswer) -> boo
 {
     match deed {
         Deed::Aggregate(aggregates) => is_cells(aggregates.as_slice(), answer),
-        Deed::Select { .. } | Deed::Insert(_) | Deed::Update(_) | Deed::Delete(_) => {
-            is_rows(kinds, answer)
-        }
+        Deed::Select { .. } | Deed::Insert(_) | Deed::Update(_) | Deed::Delete(_) | Deed::Join(_) =>
+            is_rows(kinds, answer),
     }
 }
 

@@ -1,14 +1,15 @@
 ghost use Rattle.std.specs.Prelude.{◌≡◌};
 ghost use Rattle.std.specs.Option.{option_map};
-ghost use Rattle.txn_phases.specs.Phases.{is_begun as begins_branch, stage_of};
+ghost use Rattle.txn_phases.specs.Phases.{is_begun as begins_branch, sides_of as sides_meant, stage_of};
 
 use crate::forms::{fits_scan, is_done};
-use crate::merging::{merged_cells, take_found, take_merged};
+use crate::joining::take_joined;
+use crate::merging::{found_cells, merged_cells, take_found, take_merged};
 use crate::owed::{Owed, mark};
-use crate::requests::{Asks, Word, scans, servers_of, to_all, to_begun};
+use crate::requests::{Asks, Word, scan_at, scans, servers_of, to_all, to_begun};
 use crate::writing::{Writing, plan_delete, plan_insert, plan_update};
 use crate::{Branches, Deed, Ending, Outcome, Phase, Progress, Refusal, Stage, Targets};
-use front_rows::{Answers, CellRow};
+use front_rows::Answers;
 use list_types::Listed;
 use sql_text::{LinkAnswer, ScanItems};
 use sql_values::{Cond, Kind, LockMode, Name, Rows, ServerNo, ServerNos};
@@ -35,12 +36,22 @@ pub struct TableScan {
     pub lock: LockMode,
 }
 
+/// What is asked of the links of a join's right table.
+#[derive(Debug, Drop)]
+pub struct SecondScan {
+    pub scan: TableScan,
+    /// Of each link that is scanned, by its place, whether it is of the right table.
+    pub sides: Listed<bool>,
+}
+
 /// A statement at work, with its transaction.
 #[derive(Debug, Drop)]
 pub struct Job {
     pub(crate) branches: Branches,
     pub(crate) targets: Targets,
     pub(crate) scan: TableScan,
+    /// Of a join, whose left table the scan is of.
+    pub(crate) second: Option<SecondScan>,
     pub(crate) deed: Deed,
     pub(crate) phase: Phase,
     /// Who was asked in this phase, in order.
@@ -104,7 +115,7 @@ impl Phase {
 
 impl Job {
     ghost use Rattle.std.specs.Prelude.{◌≡◌, ◌+◌, ◌-◌, ◌<◌, [], true, length, max, nat_le, IfOk, OnErr, Some, None};
-    ghost use Rattle.txn_phases.specs.Phases.{new_job, awaited, awaits as may_come, counts_at, marked, with_branches, with_found, found_if, with_refusal, keeps, noted, owed_of, owed_noted, entering, asking, finished, gives_up as gives_up_by_rule, ends as ends_by_rule, tells as tells_by_rule, writes as writes_by_rule, owed_at, concluded, decided, follows, leaves, goes_on as goes_on_by_rule, hears, begins, server_at};
+    ghost use Rattle.txn_phases.specs.Phases.{new_job, new_join, kinds_at, awaited, awaits as may_come, counts_at, marked, with_branches, with_found, found_if, with_refusal, keeps, noted, owed_of, owed_noted, entering, asking, finished, gives_up as gives_up_by_rule, ends as ends_by_rule, tells as tells_by_rule, writes as writes_by_rule, owed_at, concluded, decided, follows, leaves, goes_on as goes_on_by_rule, hears, begins, server_at};
     ghost use Rattle.txn_phases.specs.declared.phase.Stage.{Stage};
 
     /// A statement that is to scan these links, at these servers: each server of a link has its branch, none of which is begun. It takes no memory.
@@ -121,6 +132,7 @@ impl Job {
             branches,
             targets,
             scan,
+            second: None,
             deed,
             phase: Phase::Starting,
             asked: Listed::new(alloc),
@@ -128,6 +140,40 @@ impl Job {
             refused: None,
             found: Listed::new(alloc),
         }
+    }
+
+    /// The same of two tables: `scan` is of the left one, and the deed is a join.
+    pub fn new_join(
+        alloc: Global,
+        branches: Branches,
+        targets: Targets,
+        scan: TableScan,
+        second: SecondScan,
+        deed: Deed,
+    ) -> Job
+        ensures { result ≡ new_join branches targets scan second deed }
+    {
+        Job {
+            branches,
+            targets,
+            scan,
+            second: Some(second),
+            deed,
+            phase: Phase::Starting,
+            asked: Listed::new(alloc),
+            heard: 0,
+            refused: None,
+            found: Listed::new(alloc),
+        }
+    }
+
+    /// The kinds of the columns that the link has whose answer is read next.
+    fn kinds(&self) -> &[Kind]
+        ensures { result.now ≡ kinds_at self.now self.now.heard }
+    {
+        scan_at(&self.scan, &self.second, self.heard)
+            .kinds
+            .as_slice()
     }
 
     /// Whether an answer is due, and this one has its form.
@@ -138,7 +184,7 @@ impl Job {
             return false;
         }
         if self.phase.is_scanning() {
-            return fits_scan(&self.deed, self.scan.kinds.as_slice(), answer);
+            return fits_scan(&self.deed, self.kinds(), answer);
         }
         is_done(answer)
     }
@@ -360,6 +406,12 @@ impl Job {
                 )?;
                 self.write(alloc, writing)
             }
+            Deed::Join(join) => {
+                let targets = self.targets.as_slice();
+                let sides = sides_of(&self.second);
+                let outcome = take_joined(alloc, join, sides, targets, &mut self.found)?;
+                self.tell(alloc, outcome)
+            }
         }
     }
 
@@ -381,7 +433,7 @@ impl Job {
     {
         match phase {
             Phase::Starting => {
-                let asks = scans(alloc, &self.scan, self.targets.as_slice())?;
+                let asks = scans(alloc, &self.scan, &self.second, self.targets.as_slice())?;
                 self.ask(alloc, Phase::Scanning, asks)
             }
             Phase::Scanning => self.conclude(alloc),
@@ -484,13 +536,13 @@ fn found_rows(rows: Option<Rows>) -> Option<Outcome>
     }
 }
 
-/// The cells, where there are some, as an outcome.
-fn found_cells(cells: Option<CellRow>) -> Option<Outcome>
-    ensures { result ≡ option_map Outcome.Cells cells }
+/// Of each link, whether it is of the right table; nothing is told of those of one table.
+fn sides_of(second: &Option<SecondScan>) -> &[bool]
+    ensures { result.now ≡ sides_meant second.now }
 {
-    match cells {
-        Some(cells) => Some(Outcome::Cells(cells)),
-        None => None,
+    match second {
+        Some(second) => second.sides.as_slice(),
+        None => &[],
     }
 }
 

@@ -1,8 +1,10 @@
 //! What the parts answered, put together.
 ghost use Rattle.std.specs.Prelude.{◌≡◌, ◌⊎◌, [], IfOk, OnErr};
+ghost use Rattle.std.specs.Option.{option_map};
 ghost use Rattle.front_rows.specs.Merging.{key_order};
 ghost use Rattle.txn_phases.specs.Deeds.{merged_within as within_meant, found_within, cells_within};
 
+use crate::Outcome;
 use front_rows::{
     Aggregates, Answers, CellRow, Order, RowsFault, Sort, merge_aggregates, merge_rows,
 };
@@ -82,5 +84,15 @@ pub(crate) fn merged_cells(
         Ok(cells) => Ok(Some(cells)),
         Err(RowsFault::Limit) => Ok(None),
         Err(RowsFault::NoMemory) => Err(AllocError),
+    }
+}
+
+/// The cells, where there are some, as an outcome.
+pub(crate) fn found_cells(cells: Option<CellRow>) -> Option<Outcome>
+    ensures { result ≡ option_map Outcome.Cells cells }
+{
+    match cells {
+        Some(cells) => Some(Outcome::Cells(cells)),
+        None => None,
     }
 }

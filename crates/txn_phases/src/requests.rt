@@ -1,11 +1,12 @@
 //! The requests of the phases.
 ghost use Rattle.std.specs.Prelude.{◌≡◌, ◌++◌, IfOk};
-ghost use Rattle.txn_phases.specs.Phases.{told as told_meant, begun_of, order_of as order_meant, to_branches as to_these, scan_of as scan_meant, scans_of, puts_of, put_of, dels_of, del_of, servers_of as servers_asked};
+ghost use Rattle.txn_phases.specs.Phases.{told as told_meant, begun_of, order_of as order_meant, to_branches as to_these, scan_of as scan_meant, scan_at as scan_meant_at, scans_by, puts_of, put_of, dels_of, del_of, servers_of as servers_asked};
 ghost use Rattle.txn_phases.specs.Deeds.{keys_in as keys_meant};
 
 use crate::deed::news_in;
+use crate::joining::is_right;
 use crate::partitions::PlacedKey;
-use crate::{Branch, PlacedRow, TableScan, Target};
+use crate::{Branch, PlacedRow, SecondScan, TableScan, Target};
 use list_types::Listed;
 use sql_text::{LinkRequest, Scan, ScanItems};
 use sql_values::{Cond, Keys, Name, PartNo, Rows, ServerNo, ServerNos};
@@ -113,15 +114,39 @@ fn scan_of(alloc: Global, scan: &TableScan, target: &Target) -> Result<LinkReque
     }))
 }
 
-/// A scan of each link.
-pub(crate) fn scans(alloc: Global, scan: &TableScan, targets: &[Target]) -> Result<Asks, AllocError>
-    ensures { IfOk result (λ asks. asks ≡ scans_of scan.now targets.now) }
+/// The scan by which the link at that place is asked.
+pub(crate) fn scan_at<'a>(
+    scan: &'a TableScan,
+    second: &'a Option<SecondScan>,
+    place: usize,
+) -> &'a TableScan
+    ensures { result.now ≡ scan_meant_at scan.now second.now place }
+{
+    match second {
+        Some(second) => {
+            if is_right(second.sides.as_slice(), place) {
+                return &second.scan;
+            }
+            scan
+        }
+        None => scan,
+    }
+}
+
+/// A scan of each link, by the scan of its table.
+pub(crate) fn scans(
+    alloc: Global,
+    scan: &TableScan,
+    second: &Option<SecondScan>,
+    targets: &[Target],
+) -> Result<Asks, AllocError>
+    ensures { IfOk result (λ asks. asks ≡ scans_by scan.now second.now targets.now) }
 {
     let mut asks = Listed::new(alloc);
-    for target in targets {
+    for (place, target) in targets.iter().enumerate() {
         asks.push(Ask {
             server: target.server,
-            request: scan_of(alloc, scan, target)?,
+            request: scan_of(alloc, scan_at(scan, second, place), target)?,
         })?;
     }
     Ok(asks)
