@@ -163,15 +163,16 @@ fits_from place (a ∷ aggregates) rows = fits_sums a.fun (results_at a.kind pla
 abbrev pub can_merge : List Aggregate → List LinkAnswer → Bool
 can_merge aggregates parts = fits_from 0 aggregates (all_cells parts)
 
--- OF ROWS
+-- sums of values, one after the other; what isn't summed has none
+abbrev pub fits_values : AggFun → List Literal → Bool
+fits_values Count values = true
+fits_values Sum values = sums_fit (pos 0) (map number_in values)
+fits_values Min values = true
+fits_values Max values = true
 
--- the sums of the values of a column stay within 128 bits; a count has them always
-abbrev pub counts_within : AggFun → List Literal → Bool
-counts_within Count values = true
-counts_within Sum values = sums_fit (pos 0) (map number_in values)
-counts_within Min values = true
-counts_within Max values = true
+abbrev pub fits_over : List (List Value) → Aggregate → Bool
+fits_over rows a = fits_values a.fun (map (cell a.column) rows)
 
--- each sum over the rows stays within 128 bits
-abbrev pub can_count : List Aggregate → List (List Value) → Bool
-can_count aggregates rows = list_all (λ a. counts_within a.fun (map (cell a.column) rows)) aggregates
+-- sums over the rows stay within 128 bits, as those of values of 64 bits do
+abbrev pub can_aggregate : List Aggregate → List (List Value) → Bool
+can_aggregate aggregates rows = list_all (fits_over rows) aggregates

@@ -4,7 +4,7 @@ use Rattle.std.specs.List.{filter}
 use Rattle.std.specs.Option.{option_map}
 use Rattle.sql_text.specs.declared.link.LinkAnswer.{LinkAnswer}
 use Rattle.front_rows.specs.declared.aggregate.Aggregate.{Aggregate}
-use Rattle.front_rows.specs.Aggregates.{can_count, cells_over}
+use Rattle.front_rows.specs.Aggregates.{can_aggregate, cells_over}
 use Rattle.front_rows.specs.Cells.{Cell}
 use Rattle.front_rows.specs.Joining.{joined}
 use Rattle.front_rows.specs.Merging.{arranged}
@@ -49,7 +49,7 @@ joined_within join left right = joined_with join (found_within join.left_place l
 
 -- the aggregates over rows, where each sum stays within 128 bits
 abbrev pub counted_within : List Aggregate → List Row → Option (List Cell)
-counted_within aggregates found = if can_count aggregates found then Some (cells_over aggregates found) else None
+counted_within aggregates found = if can_aggregate aggregates found then Some (cells_over aggregates found) else None
 
 -- THE ANSWER
 

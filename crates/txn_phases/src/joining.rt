@@ -1,5 +1,5 @@
 //! What a join makes of the answers of its two tables.
-ghost use Rattle.std.specs.Prelude.{◌≡◌, false, get_or, IfOk};
+ghost use Rattle.std.specs.Prelude.{◌≡◌, false, drop, get_or, IfOk, IfSome};
 ghost use Rattle.front_rows.specs.Joining.{joined as join_of};
 ghost use Rattle.front_rows.specs.Merging.{arranged as arranged_meant, is_too_large};
 ghost use Rattle.txn_phases.specs.Deeds.{within};
@@ -54,6 +54,7 @@ pub(crate) fn is_right(sides: &[bool], place: usize) -> bool
 }
 
 /// Whether they are of the right table, of the links whose answers count.
+#[tactic(auto, using(crate::proofs::Sided::counting_next, crate::proofs::Sided::counting_past))]
 fn sides_counting(
     alloc: Global,
     sides: &[bool],
@@ -70,28 +71,53 @@ fn sides_counting(
     Ok(counting)
 }
 
+/// All but the first.
+fn behind_first(sides: &[bool]) -> &[bool]
+    ensures { result.now ≡ drop 1 sides.now }
+{
+    if sides.is_empty() {
+        return sides;
+    }
+    &sides[1..]
+}
+
 /// Answers of the left table, and those of the right.
 #[derive(Drop)]
-struct Parted {
+struct Parts {
     left: Answers,
     right: Answers,
 }
 
+impl Parts {
+    ghost use Rattle.std.specs.Prelude.{◌≡◌, ◌++◌, ◌∷◌, [], OnOk, if◌then◌else◌};
+
+    /// One answer more.
+    fn add(&mut self, right: bool, answer: LinkAnswer) -> Result<(), AllocError>
+        ensures left { OnOk result (self.new.left ≡ (if right then self.old.left else self.old.left ++ (answer ∷ []))) }
+        ensures right { OnOk result (self.new.right ≡ (if right then self.old.right ++ (answer ∷ []) else self.old.right)) }
+    {
+        if right {
+            self.right.push(answer)?;
+            return Ok(());
+        }
+        self.left.push(answer)?;
+        Ok(())
+    }
+}
+
 /// The answers by their tables. They are moved.
-fn parted(alloc: Global, sides: &[bool], found: Answers) -> Result<Parted, AllocError>
+fn parted(alloc: Global, sides: &[bool], found: Answers) -> Result<Parts, AllocError>
     ensures left { IfOk result (λ parts. parts.left ≡ lefts sides.now found) }
     ensures right { IfOk result (λ parts. parts.right ≡ rights sides.now found) }
 {
-    let mut parts = Parted {
+    let mut parts = Parts {
         left: Listed::new(alloc),
         right: Listed::new(alloc),
     };
-    for (place, answer) in found.into_vec().into_iter().enumerate() {
-        if is_right(sides, place) {
-            parts.right.push(answer)?;
-        } else {
-            parts.left.push(answer)?;
-        }
+    let mut rest = sides;
+    for answer in found.into_vec() {
+        parts.add(is_right(rest, 0), answer)?;
+        rest = behind_first(rest);
     }
     Ok(parts)
 }
@@ -101,9 +127,10 @@ fn joined(
     alloc: Global,
     deed: &JoinDeed,
     left: &[Row],
-    right: &[Row],
+    right: Rows,
 ) -> Result<Option<Rows>, AllocError>
-    ensures { IfOk result (λ rows. rows ≡ within (join_of deed.now.tables deed.now.on left.now right.now)) }
+    ensures rows { IfOk result (λ rows. rows ≡ within (join_of deed.now.tables deed.now.on left.now right)) }
+    ensures small { IfOk result (λ rows. IfSome rows (λ rows. is_too_large rows ≡ false)) }
 {
     match join(alloc, left, right, deed.on.as_ref(), &deed.tables) {
         Ok(rows) => Ok(Some(rows)),
@@ -113,8 +140,9 @@ fn joined(
 }
 
 /// The rows of the join; None where they, or those of a table, are more than an answer may have.
-fn joined_within(alloc: Global, deed: &JoinDeed, parts: Parted) -> Result<Option<Rows>, AllocError>
-    ensures { IfOk result (λ rows. rows ≡ within_meant deed.now parts.left parts.right) }
+fn joined_within(alloc: Global, deed: &JoinDeed, parts: Parts) -> Result<Option<Rows>, AllocError>
+    ensures rows { IfOk result (λ rows. rows ≡ within_meant deed.now parts.left parts.right) }
+    ensures small { IfOk result (λ rows. IfSome rows (λ rows. is_too_large rows ≡ false)) }
 {
     let mut parts = parts;
     let Some(left) = take_found(alloc, &mut parts.left, deed.left_place)? else {
@@ -123,7 +151,7 @@ fn joined_within(alloc: Global, deed: &JoinDeed, parts: Parted) -> Result<Option
     let Some(right) = take_found(alloc, &mut parts.right, deed.right_place)? else {
         return Ok(None);
     };
-    joined(alloc, deed, left.as_slice(), right.as_slice())
+    joined(alloc, deed, left.as_slice(), right)
 }
 
 /// Rows that are no more than an answer may have, in this order and cut so.

@@ -134,6 +134,7 @@ pub(crate) fn scan_at<'a>(
 }
 
 /// A scan of each link, by the scan of its table.
+#[tactic(auto, using(crate::proofs::Sided::scans_next))]
 pub(crate) fn scans(
     alloc: Global,
     scan: &TableScan,

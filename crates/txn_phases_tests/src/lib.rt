@@ -2,6 +2,8 @@
 #![tactic(auto)]
 
 #[cfg(test)]
+mod join_tests;
+#[cfg(test)]
 mod tests;
 #[cfg(test)]
 mod write_tests;

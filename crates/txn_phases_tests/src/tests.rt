@@ -1,16 +1,16 @@
 //! A statement through its phases, by hand.
 
-use txn_phases::*;
 use front_rows::{AggFun, Aggregate, Sort};
 use list_types::{Listed, Text};
 use sql_text::{LinkAnswer, LinkRequest, ScanItems};
 use sql_values::{Kind, LockMode, Name, Row, Rows, Value, Xid};
 use std::alloc::Global;
 use std::test::Fail;
+use txn_phases::*;
 
 // Nothing below promises anything to a proof: else each assertion's proof would look into its literals.
 
-fn name(alloc: Global, text: &str) -> Result<Name, Fail> {
+pub(crate) fn name(alloc: Global, text: &str) -> Result<Name, Fail> {
     Ok(
         Name::from_text(Text::from_str(alloc, text)?)
             .ok()
@@ -29,7 +29,7 @@ fn branch(alloc: Global, server: u32) -> Result<Branch, Fail> {
     })
 }
 
-fn target(alloc: Global, part: u32, server: u32, counts: bool) -> Result<Target, Fail> {
+pub(crate) fn target(alloc: Global, part: u32, server: u32, counts: bool) -> Result<Target, Fail> {
     Ok(Target {
         part,
         server,
@@ -67,7 +67,7 @@ fn by_key(alloc: Global) -> Result<Deed, Fail> {
 }
 
 /// The statement on two servers: partition 0 on both, partition 1 on the second.
-fn branches(alloc: Global) -> Result<Branches, Fail> {
+pub(crate) fn branches(alloc: Global) -> Result<Branches, Fail> {
     let mut branches = Listed::new(alloc);
     branches.push(branch(alloc, 0)?)?;
     branches.push(branch(alloc, 1)?)?;
@@ -123,7 +123,7 @@ fn letters(asks: &Asks) -> u64 {
 }
 
 /// What a step tells, as a number: 1 waits, 2 asks, 3 decides, 4 is over, and the requests behind it.
-fn code(progress: &Progress) -> u64 {
+pub(crate) fn code(progress: &Progress) -> u64 {
     match progress {
         Progress::Waits(_) => 1,
         Progress::Asks(asks) => 20_000_000 + letters(asks) % 10_000_000,
@@ -147,7 +147,12 @@ fn code(progress: &Progress) -> u64 {
     }
 }
 
-fn hears(alloc: Global, job: &mut Job, answer: LinkAnswer, wanted: u64) -> Result<bool, Fail> {
+pub(crate) fn hears(
+    alloc: Global,
+    job: &mut Job,
+    answer: LinkAnswer,
+    wanted: u64,
+) -> Result<bool, Fail> {
     if !job.awaits(&answer) {
         return Ok(false);
     }
@@ -190,7 +195,7 @@ fn plays(alloc: Global, job: &mut Job, step: Step) -> Result<bool, Fail> {
     }
 }
 
-fn begins(alloc: Global, job: &mut Job) -> Result<bool, Fail> {
+pub(crate) fn begins(alloc: Global, job: &mut Job) -> Result<bool, Fail> {
     Ok(code(&job.begin(alloc)?) == 20_000_011)
 }
 

@@ -2,7 +2,6 @@
 //!
 //! Requests are lists of numbers: the server, what is asked, and for a PUT the values of its rows, for a DEL its keys.
 
-use txn_phases::*;
 use front_rows::Sort;
 use list_types::{Listed, Text};
 use part_rules::Rule;
@@ -15,6 +14,7 @@ use sqlite_items::Items;
 use std::alloc::Global;
 use std::test::Fail;
 use stmt_plan::{RowFault, SetColumn, SetColumns};
+use txn_phases::*;
 
 // Nothing below promises anything to a proof: else each assertion's proof would look into its literals.
 

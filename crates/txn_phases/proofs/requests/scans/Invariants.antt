@@ -1,6 +1,6 @@
 use Rattle.std.proofs.Common.{◌≡◌, take}
-use Rattle.txn_phases.specs.Phases.{scans_of}
+use Rattle.txn_phases.specs.Phases.{scans_by}
 use Rattle.txn_phases.proofs.requests.scans.Given as goal
 
-abbrev pub invariant-loop-target : goal.invariant-loop-target
-invariant-loop-target l = l.asks ≡ scans_of l.scan (take l.target-index l.targets)
+abbrev pub invariant-loop-place : goal.invariant-loop-place
+invariant-loop-place l = l.asks ≡ scans_by l.scan l.second (take l.place l.targets)
