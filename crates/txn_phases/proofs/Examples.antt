@@ -19,20 +19,27 @@ use Rattle.sql_values.specs.Columns.{column_value}
 use Rattle.sql_values.specs.Conditions.{literal_of}
 use Rattle.sql_values.specs.Expressions.{layer_value, addend_value, expr_value, with_factor}
 use Rattle.part_rules.specs.declared.rule.Rule.TheVariants as rule
+use Rattle.sql_text.specs.declared.link.LinkAnswer.{LinkAnswer}
+use Rattle.sql_text.specs.declared.link.LinkAnswer.TheVariants as answer
 use Rattle.sql_text.specs.declared.link.LinkRequest.TheVariants as request
 use Rattle.sql_text.specs.declared.link.ScanItems.TheVariants as scanned
+use Rattle.front_rows.specs.Sorting.{sorted_by}
 use Rattle.stmt_plan.specs.declared.fault.RowFault.TheVariants as fault
 use Rattle.stmt_plan.specs.declared.planned.SetColumn.{SetColumn}
 use Rattle.stmt_plan.specs.Settings.{lone_layer, lone_literal}
 use Rattle.plain_tables.specs.Updates.{map_ok, and_then, set_to, held_in, with_value, set_one, set_all, set_rows, changed}
 use Rattle.txn_phases.specs.declared.changing.Changing.{Changing}
 use Rattle.txn_phases.specs.declared.deed.Outcome.TheVariants as outcome
+use Rattle.txn_phases.specs.declared.job.SecondScan.{SecondScan}
 use Rattle.txn_phases.specs.declared.job.TableScan.{TableScan}
+use Rattle.txn_phases.specs.declared.joining.JoinDeed.{JoinDeed}
+use Rattle.txn_phases.specs.declared.joining.JoinRows.TheVariants as join
 use Rattle.txn_phases.specs.declared.phase.Target.{Target}
 use Rattle.txn_phases.specs.declared.requests.Ask.{Ask}
 use Rattle.txn_phases.specs.declared.writing.Writing.TheVariants as writing
 use Rattle.txn_phases.specs.Deeds.{Row, placed}
-use Rattle.txn_phases.specs.Phases.{updating_by, updating_found, deleting_found}
+use Rattle.txn_phases.specs.Joins.{join_told, lefts, rights, sides_counting}
+use Rattle.txn_phases.specs.Phases.{updating_by, updating_found, deleting_found, scan_of, scans_by}
 
 abbrev link : ℕ → ℕ → Bool → Target
 link part server counts = record { part = part; server = server; remote = codes "t"; counts = counts }
@@ -159,3 +166,44 @@ scan = record { key = codes "k"; place = 0; kinds = BigInt ∷ BigInt ∷ BigInt
 deleted : deleting_found links scan (rule.Hash 2) (row (pos 1) (pos 0) (pos 0) ∷ row (pos 2) (pos 0) (pos 0) ∷ row (pos 4) (pos 0) (pos 0) ∷ [])
     ≡ writing.Writes (outcome.Done 3) (del 0 (pos 2 ∷ pos 4 ∷ []) ∷ del 1 (pos 2 ∷ pos 4 ∷ []) ∷ del 1 (pos 1 ∷ []) ∷ del 0 (pos 1 ∷ []) ∷ [])
 deleted = refl
+
+-- A JOIN
+
+-- the left table's two partitions, with links that don't count, and the right table's link between them
+abbrev joined_links : List Target
+joined_links = link 0 0 true ∷ link 0 1 false ∷ link 0 1 true ∷ link 1 1 true ∷ []
+
+abbrev right_scan : TableScan
+right_scan = record { key = codes "id"; place = 0; kinds = BigInt ∷ []; items = scanned.All; cond = None; limit = None; lock = Exclusive }
+
+abbrev second : SecondScan
+second = record { scan = right_scan; sides = false ∷ false ∷ true ∷ false ∷ [] }
+
+abbrev scan_ask : TableScan → Target → Ask
+scan_ask s t = record { server = t.server; request = scan_of s t }
+
+asked : scans_by scan (Some second) joined_links ≡ scan_ask scan (link 0 0 true) ∷ scan_ask scan (link 0 1 false) ∷ scan_ask right_scan (link 0 1 true) ∷ scan_ask scan (link 1 1 true) ∷ []
+asked = refl
+
+-- of the answers that count
+left_answers : (a b c : LinkAnswer) → lefts (sides_counting second.sides joined_links) (a ∷ b ∷ c ∷ []) ≡ a ∷ c ∷ []
+left_answers a b c = refl
+
+right_answers : (a b c : LinkAnswer) → rights (sides_counting second.sides joined_links) (a ∷ b ∷ c ∷ []) ≡ b ∷ []
+right_answers a b c = refl
+
+abbrev number : ℤ → Row
+number n = value.Number n ∷ []
+
+abbrev pair : ℤ → ℤ → Row
+pair m n = value.Number m ∷ value.Number n ∷ []
+
+-- SELECT .. FROM a, b LIMIT 2 OFFSET 1
+abbrev all_pairs : JoinDeed
+all_pairs = record { left_place = 0; right_place = 0; on = None; tables = []; work = join.Select [] 1 (Some 2) }
+
+-- by the left key, and then by the right one
+told : join_told all_pairs (false ∷ true ∷ false ∷ []) (answer.Rows (number (pos 2) ∷ []) ∷ answer.Rows (number (pos 5) ∷ number (pos 7) ∷ []) ∷ answer.Rows (number (pos 1) ∷ []) ∷ [])
+    ≡ Some (outcome.Found (pair (pos 1) (pos 7) ∷ pair (pos 2) (pos 5) ∷ []))
+unfolding sorted_by
+told = refl

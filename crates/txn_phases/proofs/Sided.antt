@@ -1,7 +1,7 @@
 -- Links and answers beside their sides, one by one.
 use Rattle.std.proofs.Common.{◌≡◌, ◌<◌, ◌+◌, ℕ, suc, Bool, true, false, not, cond, List, [], ◌∷◌, ◌++◌, map, drop, take, get_or, length, Option, Some, None, refl, sym, ◌∙◌, ap, arith, add-zero}
 use Rattle.std.specs.List.{filter}
-use Rattle.std.proofs.lemmas.List.{append-nil, drop-drop, get_or-drop, length-append, length-take, map-append, map_more, take_more}
+use Rattle.std.proofs.lemmas.List.{append-nil, drop-drop, get_or-drop, length-append, length-map, length-take, map-append, map_more, take_more}
 use Rattle.txn_phases.specs.declared.job.SecondScan.{SecondScan}
 use Rattle.txn_phases.specs.declared.job.TableScan.{TableScan}
 use Rattle.txn_phases.specs.declared.phase.Target.{Target}
@@ -18,6 +18,10 @@ pub sided_more : {X : Type 0} (sides : List Bool) (xs : List X) (x : X) → side
 sided_more sides [] x = refl
 sided_more sides (y ∷ xs) x =
     ap (λ l. (get_or sides 0 false, y) ∷ l) (sided_more (drop 1 sides) xs x ∙ ap (λ side. sided (drop 1 sides) xs ++ (side, x) ∷ []) (at_rest sides (length xs)))
+
+pub length-sided : {X : Type 0} (sides : List Bool) (xs : List X) → length (sided sides xs) ≡ length xs
+length-sided sides [] = refl
+length-sided sides (x ∷ xs) = ap suc (length-sided (drop 1 sides) xs)
 
 sided_next : {X : Type 0} (sides : List Bool) (xs : List X) (i : ℕ) (x : X) → x ≡ get_or xs i x → i < length xs → sided sides (take (i + 1) xs) ≡ sided sides (take i xs) ++ (get_or sides i false, x) ∷ []
 sided_next sides xs i x is inside =
@@ -102,3 +106,9 @@ scans_next scan None targets i t is inside =
 scans_next scan (Some second) targets i t is inside =
     let ask : Bool × Target → Ask = λ (p : Bool × Target). record { server = p.1.server; request = scan_of (scan_on scan second p.0) p.1 } in
     ap (map ask) (sided_next second.sides targets i t is inside) ∙ map-append ask (sided second.sides (take i targets)) ((get_or second.sides i false, t) ∷ [])
+
+-- each link is asked once
+pub length-scans : (scan : TableScan) (second : Option SecondScan) (targets : List Target) → length (scans_by scan second targets) ≡ length targets
+length-scans scan None targets = length-map targets (λ (t : Target). record { server = t.server; request = scan_of scan t })
+length-scans scan (Some second) targets =
+    length-map (sided second.sides targets) (λ (p : Bool × Target). record { server = p.1.server; request = scan_of (scan_on scan second p.0) p.1 }) ∙ length-sided second.sides targets

@@ -5,10 +5,12 @@
 //! that was scanned; END; PREPARE; and, once each server has prepared its branch, the decision and COMMIT. The first refusal of a phase before the decision
 //! gives the statement up: each branch that was begun is rolled back, once the phase's answers were read.
 //!
+//! A join scans two tables in one phase ([`Job::new_join`]): each link is asked by the scan of its table, and the rows that both gave are joined here.
+//!
 //! [`Job::hear`] takes one answer and tells how it goes on, as data: nothing here waits, reads or writes. Where it finds no memory the statement is over,
 //! and [`Owed`] is what is left to be read and rolled back.
 //!
-//! `specs/Phases` has the phases, `specs/Deeds` what is done with the rows.
+//! `specs/Phases` has the phases, `specs/Deeds` what is done with the rows, `specs/Joins` what is done with those of two tables.
 #![tactic(auto)]
 
 mod changing;
